@@ -1,0 +1,3 @@
+pub mod Quotients
+pub mod MessageLaws
+pub mod BucketLaws

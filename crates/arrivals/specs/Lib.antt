@@ -1,0 +1,7 @@
+pub mod Limits
+pub mod Faults
+pub mod Messages
+pub mod Buckets
+pub mod Delays
+pub mod Choices
+pub mod Worked
