@@ -1,4 +1,5 @@
 pub mod Limits
+pub mod Least
 pub mod Faults
 pub mod Messages
 pub mod Buckets

@@ -15,6 +15,7 @@ pub use choices::Choice;
 pub use choices::ChoiceArrival;
 pub use delays::Delayed;
 pub use delays::DelayedArrival;
+pub use delays::delayed_count;
 pub use faults::KindFault;
 pub use faults::KindFaultDebug;
 pub use faults::KindFaultPartialEq;

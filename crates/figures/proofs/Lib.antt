@@ -1,0 +1,16 @@
+pub mod Items
+pub mod Leaps
+pub mod Walk
+pub mod Busy
+pub mod GroupSums
+pub mod Transport
+pub mod Uniqueness
+pub mod Computed
+pub mod WorkedPlan
+pub mod RackLimits
+pub mod Hopwise
+pub mod TableFacts
+pub mod HopScan
+pub mod ByPriority
+pub mod LineSums
+pub mod SideNeeds

@@ -1,0 +1,15 @@
+pub mod Counts
+pub mod During
+pub mod Delay
+pub mod Line
+pub mod Waiting
+pub mod Holding
+pub mod Listed
+pub mod Sound
+pub mod Streams
+pub mod Network
+pub mod Promise
+pub mod Searches
+pub mod Falls
+pub mod Withdrawn
+pub mod Example

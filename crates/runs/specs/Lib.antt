@@ -1,0 +1,4 @@
+pub mod Count
+pub mod Run
+pub mod Promise
+pub mod Example
