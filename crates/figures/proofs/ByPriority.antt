@@ -1,14 +1,14 @@
 -- A stream's figure by its priority: from the figures by places to the figures by streams.
 use mathlib.Core.Path.{_≡_, refl, sym, ap, _∙_, subst}
-use mathlib.Core.Bool.{Bool, true, false, cond, _&&_}
-use mathlib.Core.List.{List, [], _∷_, _++_}
-use mathlib.Core.Logic.{_⊎_, inl, inr}
-use Prim.Native.Nat.{ℕ, zero, suc, _+_, _≤_, _<_}
+use mathlib.Core.Bool.{true, cond}
+use mathlib.Core.List.{List, [], _∷_}
+use mathlib.Core.Logic.{inl, inr}
+use Prim.Native.Nat.{ℕ, zero, suc, _+_, _<_}
 use native.Mathlib.Omega.{arith}
 use lib.Dec.{eqb, ltb}
 use lib.ListN.{length, getD, drop, replicate}
 use Rattle.std.proofs.shelf.Lists.{getD-drop, getD-replicate, getD-past, length-replicate}
-use Rattle.std.proofs.shelf.Tests.{cases-lt, cond-true, cond-false, eq-eqb, ne-eqb, ltb-true}
+use Rattle.std.proofs.shelf.Tests.{and-parts, cases-lt, cond-true, cond-false, eq-eqb, ne-eqb}
 use Rattle.std.specs.shelf.Lists.{At}
 use Rattle.std.specs.declared.option.Option.{Option}
 use Rattle.std.specs.declared.option.Option.the-variants.{Some, None}
@@ -21,10 +21,10 @@ use Rattle.figures.specs.declared.hops.Hop.the-variants.{Probe, Hub}
 use Rattle.figures.specs.declared.racks.Rack.{Rack}
 use Rattle.figures.specs.declared.streams.Stream.{Stream}
 use Rattle.figures.specs.Racks.{spread}
-use Rattle.figures.specs.Tables.{_∈_, falls-under, FirstDelay, SecondDelay, Delays}
-use Rattle.figures.specs.Told.{Listed, Late, DelayAt, HopTold, HopToldFor, DelaysAre, NoSecond, DelaysTold}
-use Rattle.figures.proofs.Items.{in-place}
-use Rattle.figures.proofs.RackLimits.{both}
+use Rattle.figures.specs.Tables.{_∈_, falls-under}
+use Rattle.figures.specs.Told.{Listed, Late, DelayAt, HopTold, HopToldFor, DelaysAre, DelaysTold}
+use Rattle.figures.proofs.Items.{in-place, at-in}
+use Rattle.figures.proofs.TableFacts.{all-under}
 
 -- the figure at the place of the stream with z's priority
 unfoldable pub figure-of : {K : Type 0} → List (Stream K) → List ℕ → Stream K → ℕ
@@ -32,13 +32,8 @@ figure-of [] qs z = 0
 figure-of (s ∷ ss) qs z = cond (eqb (s .priority) (z .priority)) (getD qs 0 0) (figure-of ss (drop 1 qs) z)
 
 -- later streams have lower priority
-pub later-lower : {K : Type 0} (high : ℕ) (ss : List (Stream K)) → falls-under high ss ≡ true → (j : ℕ) → j < length ss → At (λ z. z .priority < high) ss j
-later-lower high [] fall j h d = absurd (omega arith)
-later-lower high (s ∷ ss) fall zero h d =
-    ltb-true (s .priority) high (both (ltb (s .priority) high) (falls-under (s .priority) ss) fall .0)
-later-lower high (s ∷ ss) fall (suc j) h d =
-    let split = both (ltb (s .priority) high) (falls-under (s .priority) ss) fall in
-    omega (arith, ltb-true (s .priority) high (split .0), later-lower (s .priority) ss (split .1) j (omega arith) d)
+later-lower : {K : Type 0} (high : ℕ) (ss : List (Stream K)) → falls-under high ss ≡ true → (j : ℕ) → j < length ss → At (λ z. z .priority < high) ss j
+later-lower high ss fall j h d = all-under high ss fall (getD ss j d) (at-in ss j d h)
 
 pub figure-listed : {K : Type 0} (high : ℕ) (ss : List (Stream K)) (qs : List ℕ) → falls-under high ss ≡ true → Listed (figure-of ss qs) ss qs
 unfolding figure-of
@@ -46,7 +41,7 @@ figure-listed high [] qs fall i h d = absurd (omega arith)
 figure-listed high (s ∷ ss) qs fall zero h d =
     sym (cond-true (eqb (s .priority) (s .priority)) _ _ (eq-eqb (s .priority) (s .priority) refl))
 figure-listed high (s ∷ ss) qs fall (suc j) h d =
-    let split = both (ltb (s .priority) high) (falls-under (s .priority) ss) fall in
+    let split = and-parts (ltb (s .priority) high) (falls-under (s .priority) ss) fall in
     let z = getD ss j d in
     let lower = later-lower (s .priority) ss (split .1) j (omega arith) d in
     let rest = figure-listed (s .priority) ss (drop 1 qs) (split .1) j (omega arith) d in

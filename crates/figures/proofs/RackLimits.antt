@@ -1,26 +1,20 @@
 -- What a rack that keeps its limits gives, line by line.
-use mathlib.Core.Path.{_≡_, refl, sym, ap, _∙_, subst}
-use mathlib.Core.Bool.{Bool, true, false, cond, _&&_}
+use mathlib.Core.Path.{_≡_, refl, ap, _∙_}
+use mathlib.Core.Bool.{true, false, cond, _&&_}
 use mathlib.Core.List.{List, [], _∷_}
 use Prim.Native.Nat.{ℕ, zero, suc, _+_, _-_, _≤_, _<_}
 use native.Mathlib.Omega.{arith}
-use lib.Dec.{leb, eqb}
+use lib.Dec.{eqb}
 use lib.ListN.{length, getD, drop}
 use Rattle.std.proofs.shelf.Lists.{drop-more, drop-all}
+use Rattle.std.proofs.shelf.Tests.{and-parts}
 use Rattle.std.proofs.shelf.Ways.{tells}
 use Rattle.std.specs.declared.option.Option.{Option}
 use Rattle.std.specs.declared.option.Option.the-variants.{Some, None}
 use Rattle.figures.specs.declared.racks.Line.{Line}
 use Rattle.figures.specs.declared.racks.Rack.{Rack}
 use Rattle.figures.specs.Limits.{longest-switch, longest-cell, longest-propagation}
-use Rattle.figures.specs.Racks.{line-at, cell-time-of, propagation-of, cell-time, sending, spread, hub-kept, line-kept, lines-kept, rack-kept}
-
-pub both : (a b : Bool) → a && b ≡ true → (a ≡ true) × (b ≡ true)
-both true b e = (refl, e)
-both false b e = let z : _≡_ {A = Bool} true false = sym e in (sym z, absurd (cc-absurd z))
-  where
-    cc-absurd : true ≡ false → ⊥
-    cc-absurd e = let z : _≡_ {A = ℕ} 0 1 = cc in omega arith
+use Rattle.figures.specs.Racks.{line-at, cell-time-of, propagation-of, hub-kept, line-kept, lines-kept, rack-kept}
 
 module _ (lines : List (Option Line)) (i : ℕ) where
   pub lines-kept-more : i < length lines → line-kept (getD lines i None) ≡ true → lines-kept (drop i lines) ≡ lines-kept (drop (i + 1) lines)
@@ -34,8 +28,8 @@ module _ (lines : List (Option Line)) (i : ℕ) where
 
 kept-at : (lines : List (Option Line)) (i : ℕ) → lines-kept lines ≡ true → line-kept (getD lines i None) ≡ true
 kept-at [] i kept = refl
-kept-at (line ∷ lines) zero kept = both (line-kept line) (lines-kept lines) kept .0
-kept-at (line ∷ lines) (suc i) kept = kept-at lines i (both (line-kept line) (lines-kept lines) kept .1)
+kept-at (line ∷ lines) zero kept = and-parts (line-kept line) (lines-kept lines) kept .0
+kept-at (line ∷ lines) (suc i) kept = kept-at lines i (and-parts (line-kept line) (lines-kept lines) kept .1)
 
 -- the limits of a line's times, by its number
 pub record Timed (o : Option Line) : Type 0 where
@@ -54,11 +48,11 @@ module _ (rack : Rack) (kept : rack-kept rack ≡ true) where
       timed (line-at rack n)
       (elim (eqb n 0) as (λ b. line-kept (cond b None (getD (rack .lines) (n - 1) None)) ≡ true) [
         | true ↦ refl
-        | false ↦ kept-at (rack .lines) (n - 1) (both (hub-kept (rack .hub)) (lines-kept (rack .lines)) kept .1)
+        | false ↦ kept-at (rack .lines) (n - 1) (and-parts (hub-kept (rack .hub)) (lines-kept (rack .lines)) kept .1)
       ])
 
   pub hub-ordered : rack .hub .least ≤ rack .hub .most
-  hub-ordered = let h = both (hub-kept (rack .hub)) (lines-kept (rack .lines)) kept .0 in grind (arith, tells)
+  hub-ordered = let h = and-parts (hub-kept (rack .hub)) (lines-kept (rack .lines)) kept .0 in grind (arith, tells)
 
   pub hub-high : rack .hub .most ≤ longest-switch
-  hub-high = let h = both (hub-kept (rack .hub)) (lines-kept (rack .lines)) kept .0 in grind (arith, tells)
+  hub-high = let h = and-parts (hub-kept (rack .hub)) (lines-kept (rack .lines)) kept .0 in grind (arith, tells)

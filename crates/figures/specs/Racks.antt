@@ -1,5 +1,4 @@
 -- The lines of a rack by their numbers, and what every rack keeps.
-use mathlib.Core.Path.{_≡_}
 use mathlib.Core.Bool.{Bool, true, false, cond, _&&_}
 use mathlib.Core.List.{List, [], _∷_}
 use Prim.Native.Nat.{ℕ, _+_, _-_}
@@ -8,7 +7,6 @@ use lib.ListN.{getD}
 use Rattle.std.specs.declared.option.Option.{Option}
 use Rattle.std.specs.declared.option.Option.the-variants.{Some, None}
 use Rattle.figures.specs.declared.racks.Hub.{Hub}
-use Rattle.figures.specs.declared.racks.Side.{Side}
 use Rattle.figures.specs.declared.racks.Side.the-variants.{Inbound, Outbound}
 use Rattle.figures.specs.declared.racks.Line.{Line}
 use Rattle.figures.specs.declared.racks.Rack.{Rack}
@@ -22,7 +20,7 @@ numbers = 1 ∷ 2 ∷ 3 ∷ 4 ∷ 5 ∷ 6 ∷ 7 ∷ 8 ∷ 9 ∷ 10 ∷ 11 ∷ 12
 abbrev pub line-at : Rack → ℕ → Option Line
 line-at rack n = cond (eqb n 0) None (getD (rack .lines) (n - 1) None)
 
--- a missing line has no port and no cell; 1 and 0 only stand in for its times
+-- a missing line has no port and no cell; 1 and 0 only stand in for its times, and it has no place
 abbrev pub cell-time-of : Option Line → ℕ
 cell-time-of (Some line) = line .«cell_time»
 cell-time-of None = 1
@@ -30,6 +28,10 @@ cell-time-of None = 1
 abbrev pub propagation-of : Option Line → ℕ
 propagation-of (Some line) = line .propagation
 propagation-of None = 0
+
+abbrev pub places-of : Option Line → ℕ
+places-of (Some line) = line .places
+places-of None = 0
 
 abbrev pub cell-time : Rack → ℕ → ℕ
 cell-time rack n = cell-time-of (line-at rack n)

@@ -1,7 +1,7 @@
 -- The figures of a table of streams in a rack: delays over two hops, and the need of each port.
 -- α is the arrival bound of each kind.
 use mathlib.Core.Path.{_≡_}
-use mathlib.Core.Bool.{Bool, true, false, cond, _&&_}
+use mathlib.Core.Bool.{Bool, true, cond, _&&_}
 use mathlib.Core.List.{List, [], _∷_}
 use mathlib.Core.Logic.{_⊎_}
 use Prim.Native.Nat.{ℕ, _+_, _-_, _/_, _≤_, min}
@@ -27,6 +27,10 @@ x ∈ (y ∷ ys) = (x ≡ y) ⊎ (x ∈ ys)
 -- the sum of f over the elements that pass p
 abbrev pub over : {X : Type 0} → (X → Bool) → (X → ℕ) → List X → ℕ
 over p f xs = sumBy (λ x. cond (p x) (f x) 0) xs
+
+-- no two streams of the table have one number
+abbrev pub Distinct : {K : Type 0} → List (Stream K) → Type 0
+Distinct {K} table = (s z : Stream K) → s ∈ table → z ∈ table → s .number ≡ z .number → s ≡ z
 
 -- each priority is below `high`, and the priorities fall from one stream to the next
 abbrev pub falls-under : {K : Type 0} → ℕ → List (Stream K) → Bool
@@ -110,7 +114,7 @@ module _ {K : Type 0} (α : K → ℕ → ℕ) (rack : Rack) (table : List (Stre
   -- the table passes every check: all figures are there, no total is above its deadline, no need above its places
   pub record Passing : Type 0 where
     pub kept : table-kept rack table ≡ true
-    pub distinct : (s z : Stream K) → s ∈ table → z ∈ table → s .number ≡ z .number → s ≡ z
+    pub distinct : Distinct table
     pub q1 : Stream K → ℕ
     pub q2 : Stream K → ℕ
     pub need : ℕ → ℕ

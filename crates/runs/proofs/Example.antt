@@ -19,15 +19,16 @@ use Rattle.figures.specs.declared.racks.Line.{Line}
 use Rattle.figures.specs.declared.racks.Side.the-variants.{Inbound, Outbound}
 use Rattle.figures.specs.declared.streams.Stream.{Stream}
 use Rattle.figures.specs.Port.{Delay, Need}
-use Rattle.figures.specs.Racks.{numbers, line-at, is-inbound, is-outbound}
+use Rattle.figures.specs.Loads.{Lawful}
+use Rattle.figures.specs.Racks.{numbers, line-at, places-of, is-inbound, is-outbound}
 use Rattle.figures.specs.Tables.{_∈_, FirstDelay, SecondDelay, ProbeNeed, HubNeed, probe-load, from-line, hub-load, total, Passing}
 use Rattle.runs.specs.Count.{count, during}
 use Rattle.runs.specs.Run.{Port, At, other, Serves, probe-port, hub-port, brought, Keeps}
-use Rattle.runs.specs.Promise.{Lawful-kind, places-of}
 use Rattle.runs.specs.Example.{line, rack, stream, table, run, Reached}
 use Rattle.runs.proofs.Line.{count-one}
 use Rattle.runs.proofs.Listed.{sums-le, sums-has}
-use Rattle.runs.proofs.Withdrawn.{delayed-le, delayed-some}
+use Rattle.figures.proofs.GroupSums.{seen-some}
+use Rattle.runs.proofs.Withdrawn.{delayed-le}
 
 -- a port with one cell, which comes while the one unreserved cell is sent
 single : {K : Type 0} (p : Port K) → p .cells ≡ 1 → length (p .unreserved) ≡ 1 → other p 0 + p .cell ≡ p .start 0
@@ -90,13 +91,13 @@ only : (P : Stream Message → Type 0) → P stream → (s : Stream Message) →
 only P h s m = ⊎-elim (λ e. subst P (sym e) h) (λ no′. absurd no′) m
 
 -- messages keep the laws of a kind
-pub lawful : (kind : Message) → Lawful-kind (message-alpha kind)
-lawful kind =
+pub lawful : Lawful message-alpha
+lawful =
     record {
-      none = refl;
-      some = message.some kind;
-      rises = λ v w l _. message.rises kind v w l;
-      small = message.small kind;
+      none = λ kind. refl;
+      some = message.some;
+      rises = λ kind v w l _. message.rises kind v w l;
+      small = message.small;
     }
 
 abbrev bound : ℕ → ℕ
@@ -166,8 +167,8 @@ hub-some u l =
     let one : 1 ≤ (u - 1 + 3) / 3 + 1 = omega arith in
     let two : 1 ≤ 0 + delayed bound 5 u = omega (
       arith,
-      delayed-some bound (lawful (stream .kind)) 5,
-      delayed-le bound (lawful (stream .kind)) 5 5 1 u
+      seen-some message-alpha lawful (Some 5) (stream .kind),
+      delayed-le message-alpha lawful (stream .kind) 5 5 1 u
           (omega arith) l,
     ) in
     let first : 1 ≤ min ((u - 1 + 3) / 3 + 1) (0 + delayed bound 5 u) = le-min one two in
@@ -183,7 +184,7 @@ hub-few u l =
     sums-le (λ i. from-line message-alpha rack table (λ _. 2) 2 u (line-at rack i) i) (λ i. cond (eqb i 1) 1 0) numbers
     (λ i _. two-lines (λ i o. from-line message-alpha rack table (λ _. 2) 2 u o i ≤ cond (eqb i 1) 1 0)
     (let a = min-le-right ((u - 1 + 3) / 3 + 1) (0 + delayed bound 5 u) in
-    omega (arith, delayed-le bound (lawful (stream .kind)) 5 5 u 5 (omega arith) l))
+    omega (arith, delayed-le message-alpha lawful (stream .kind) 5 5 u 5 (omega arith) l))
     (min-le-right ((u - 1 + 3) / 3 + 1) 0) (λ i. omega arith) i)
 
 passing : Passing message-alpha rack table

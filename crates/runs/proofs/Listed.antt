@@ -53,10 +53,6 @@ sums-le f g [] h = omega arith
 sums-le f g (x ∷ xs) h = omega
     (arith, sumBy-cons f x xs, sumBy-cons g x xs, h x (inl refl), sums-le f g xs (λ y m. h y (inr m)))
 
-pub sums-same : {X : Type 0} (f g : X → ℕ) (xs : List X) → ((x : X) → x ∈ xs → f x ≡ g x) → sumBy f xs ≡ sumBy g xs
-sums-same f g xs h = omega
-    (arith, sums-le f g xs (λ x m. omega (arith, h x m)), sums-le g f xs (λ x m. omega (arith, h x m)))
-
 pub over-le : {X : Type 0} (p : X → Bool) (f g : X → ℕ) (xs : List X) → ((x : X) → x ∈ xs → f x ≤ g x)
     → over p f xs ≤ over p g xs
 over-le p f g xs h =

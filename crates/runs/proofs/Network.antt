@@ -18,10 +18,10 @@ use Rattle.figures.specs.declared.streams.Stream.{Stream}
 use Rattle.figures.specs.Limits.{horizon}
 use Rattle.figures.specs.Port.{Delay}
 use Rattle.figures.specs.Racks.{numbers, line-at, cell-time, cell-time-of, sending, spread, is-inbound, is-outbound}
-use Rattle.figures.specs.Tables.{_∈_, over, probe-bound, hub-bound, probe-load, from-line, hub-load, Delays, Needs}
+use Rattle.figures.specs.Tables.{_∈_, Distinct, over, probe-bound, hub-bound, probe-load, from-line, hub-load, Delays, Needs}
 use Rattle.runs.specs.Count.{count, during, number}
 use Rattle.runs.specs.Run.{Run, At, held, probe-port, hub-port, Keeps}
-use Rattle.runs.specs.Promise.{One-place-each, Distinct}
+use Rattle.runs.specs.Promise.{One-place-each}
 use Rattle.runs.proofs.Counts.{some-or-none, count-le, count-none}
 use Rattle.runs.proofs.During.{during-in, during-out, number-le}
 use Rattle.runs.proofs.Listed.{union-bound}

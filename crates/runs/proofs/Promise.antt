@@ -12,10 +12,10 @@ use Rattle.std.proofs.shelf.Tests.{both-ways, cases-lt}
 use Rattle.figures.specs.declared.racks.Line.{Line}
 use Rattle.figures.specs.declared.racks.Rack.{Rack}
 use Rattle.figures.specs.declared.streams.Stream.{Stream}
-use Rattle.figures.specs.Racks.{line-at, is-inbound, is-outbound}
+use Rattle.figures.specs.Racks.{line-at, places-of, is-inbound, is-outbound}
 use Rattle.figures.specs.Tables.{total, Passing}
 use Rattle.runs.specs.Run.{reaches, way}
-use Rattle.runs.specs.Promise.{places-of, Promise, Promise-kept}
+use Rattle.runs.specs.Promise.{Promise, Promise-kept}
 use Rattle.runs.proofs.Sound.{Sound, sound}
 use Rattle.runs.proofs.Network.{probe-wait, hub-wait, probe-held, hub-held}
 

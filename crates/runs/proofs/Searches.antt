@@ -1,4 +1,4 @@
--- Least and largest numbers: that there are some, and only one.
+-- Least and largest numbers: that there are some.
 use mathlib.Core.Path.{_≡_, refl}
 use mathlib.Core.Logic.{_⊎_, inl, inr, ⊎-elim}
 use Prim.Native.Nat.{ℕ, zero, suc, _≤_, _<_}
@@ -6,13 +6,6 @@ use native.Mathlib.Omega.{arith}
 use Rattle.std.proofs.shelf.Tests.{cases-lt}
 use Rattle.arrivals.specs.Least.{Least, Largest}
 use Rattle.runs.proofs.Counts.{below-suc}
-
-pub least-same : (P : ℕ → Type 0) (a b : ℕ) → Least P a → Least P b → a ≡ b
-least-same P a b x y = omega (arith, x .first b (y .has), y .first a (x .has))
-
-pub largest-same : (f : ℕ → ℕ) (low high a b : ℕ) → Largest f low high a → Largest f low high b → a ≡ b
-largest-same f low high a b x y =
-    omega (arith, x .met, y .met, x .bounds (y .at) (y .from) (y .to), y .bounds (x .at) (x .from) (x .to))
 
 -- the least number with P, up to n
 abbrev Up-to : (ℕ → Type 0) → ℕ → Type 0

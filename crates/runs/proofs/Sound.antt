@@ -1,21 +1,23 @@
 -- What a table that keeps its rules gives, fact by fact.
-use mathlib.Core.Path.{_≡_, refl, sym, ap, subst}
-use mathlib.Core.Bool.{Bool, true, false, _&&_}
+use mathlib.Core.Path.{_≡_, refl, sym, subst}
+use mathlib.Core.Bool.{Bool, true, false}
 use mathlib.Core.Logic.{inl, inr, ⊎-elim}
 use mathlib.Core.List.{List, [], _∷_}
 use Prim.Native.Nat.{ℕ, zero, suc, _+_, _-_, _≤_, _<_}
 use native.Mathlib.Omega.{arith}
-use lib.Dec.{leb, ltb, eqb}
+use lib.Dec.{ltb, eqb}
 use lib.ListN.{length, getD, List·getD-eq-default}
 use Rattle.std.specs.declared.option.Option.{Option}
-use Rattle.std.specs.declared.option.Option.the-variants.{Some, None}
-use Rattle.std.proofs.shelf.Tests.{and-parts, both-ways, cases-lt, cond-both, leb-true, ltb-true, eqb-false}
+use Rattle.std.specs.declared.option.Option.the-variants.{None}
+use Rattle.std.proofs.shelf.Tests.{and-parts, both-ways, cases-lt, cond-both, eqb-false}
 use Rattle.figures.specs.declared.racks.Line.{Line}
 use Rattle.figures.specs.declared.racks.Rack.{Rack}
 use Rattle.figures.specs.declared.streams.Stream.{Stream}
-use Rattle.figures.specs.Limits.{longest-switch, most-streams}
-use Rattle.figures.specs.Racks.{numbers, line-at, cell-time, cell-time-of, spread, is-inbound, is-outbound, hub-kept, line-kept, lines-kept, rack-kept}
+use Rattle.figures.specs.Limits.{longest-switch}
+use Rattle.figures.specs.Racks.{numbers, line-at, cell-time, spread, is-inbound, is-outbound}
 use Rattle.figures.specs.Tables.{_∈_, falls-under, placed, all-placed, table-kept}
+use Rattle.figures.proofs.RackLimits.{line-timed, hub-ordered, hub-high}
+use Rattle.figures.proofs.TableFacts.{rack-is-kept, falls, are-placed, all-under}
 use Rattle.runs.specs.Promise.{One-place-each}
 
 -- each priority is above those that follow
@@ -30,22 +32,6 @@ pub record Sound {K : Type 0} (rack : Rack) (table : List (Stream K)) : Type 0 w
   pub falling : Falling table
   pub from-probe : (s : Stream K) → s ∈ table → is-inbound (line-at rack (s .inbound)) ≡ true
   pub to-host : (s : Stream K) → s ∈ table → is-outbound (line-at rack (s .outbound)) ≡ true
-
-line-kept-at : (lines : List (Option Line)) (n : ℕ) → lines-kept lines ≡ true → line-kept (getD lines n None) ≡ true
-line-kept-at [] n h = refl
-line-kept-at (x ∷ xs) zero h = and-parts (line-kept x) (lines-kept xs) h .0
-line-kept-at (x ∷ xs) (suc n) h = line-kept-at xs n (and-parts (line-kept x) (lines-kept xs) h .1)
-
-some-time : (line : Option Line) → line-kept line ≡ true → 1 ≤ cell-time-of line
-some-time (Some line) h = leb-true 1 (line .«cell_time») (and-parts (leb 1 (line .«cell_time»)) _ h .0)
-some-time None h = omega arith
-
--- every line of a kept rack has a cell time of 1 or more, a missing one too
-pub cell-time-some : (rack : Rack) → rack-kept rack ≡ true → (l : ℕ) → 1 ≤ cell-time rack l
-cell-time-some rack h l =
-    cond-both (eqb l 0) None (getD (rack .lines) (l - 1) None) (λ line. 1 ≤ cell-time-of line) (λ _. omega arith)
-    (λ _. some-time (getD (rack .lines) (l - 1) None)
-    (line-kept-at (rack .lines) (l - 1) (and-parts (hub-kept (rack .hub)) (lines-kept (rack .lines)) h .1)))
 
 -- a number with a line is the number of a place
 pub line-there : (rack : Rack) (has : Option Line → Bool) → has None ≡ false → (l : ℕ) → has (line-at rack l) ≡ true
@@ -79,21 +65,11 @@ number-in l a b = in-up-from (length numbers) 1 l a (omega arith)
 pub inbound-in : (rack : Rack) → One-place-each rack → (l : ℕ) → is-inbound (line-at rack l) ≡ true → l ∈ numbers
 inbound-in rack all l h = let t = line-there rack is-inbound refl l h in number-in l (t .0) (omega (arith, t .1, all))
 
--- priorities under a limit
-pub all-under : {K : Type 0} (high : ℕ) (table : List (Stream K)) → falls-under high table ≡ true → (z : Stream K)
-    → z ∈ table → z .priority < high
-all-under high [] h z m = absurd m
-all-under high (s ∷ ss) h z m =
+each-above : {K : Type 0} (high : ℕ) (table : List (Stream K)) → falls-under high table ≡ true → Falling table
+each-above high [] h = tt
+each-above high (s ∷ ss) h =
     let o = and-parts (ltb (s .priority) high) (falls-under (s .priority) ss) h in
-    let l = ltb-true (s .priority) high (o .0) in
-    ⊎-elim (λ e. omega (arith, l, ap (λ y. y .priority) e))
-    (λ n. omega (arith, l, all-under (s .priority) ss (o .1) z n)) m
-
-falls : {K : Type 0} (high : ℕ) (table : List (Stream K)) → falls-under high table ≡ true → Falling table
-falls high [] h = tt
-falls high (s ∷ ss) h =
-    let o = and-parts (ltb (s .priority) high) (falls-under (s .priority) ss) h in
-    (all-under (s .priority) ss (o .1), falls (s .priority) ss (o .1))
+    (all-under (s .priority) ss (o .1), each-above (s .priority) ss (o .1))
 
 all-there : {K : Type 0} (rack : Rack) (table : List (Stream K)) → all-placed rack table ≡ true → (s : Stream K)
     → s ∈ table → placed rack s ≡ true
@@ -104,21 +80,15 @@ all-there rack (x ∷ xs) h s m =
 
 pub sound : {K : Type 0} (rack : Rack) (table : List (Stream K)) → table-kept rack table ≡ true → Sound rack table
 sound {K} rack table h =
-    let a = and-parts (rack-kept rack)
-    (leb (length table) most-streams && (falls-under 256 table && all-placed rack table)) h in
-    let b = and-parts (leb (length table) most-streams) (falls-under 256 table && all-placed rack table) (a .1) in
-    let c = and-parts (falls-under 256 table) (all-placed rack table) (b .1) in
-    let d = and-parts (hub-kept (rack .hub)) (lines-kept (rack .lines)) (a .0) in
-    let e = and-parts (leb (rack .hub .least) (rack .hub .most)) (leb (rack .hub .most) longest-switch) (d .0) in
-    let most = leb-true (rack .hub .most) longest-switch (e .1) in
+    let kept = rack-is-kept rack table h in
     let sides = λ (s : Stream K) (m : s ∈ table).
     and-parts (is-inbound (line-at rack (s .inbound))) (is-outbound (line-at rack (s .outbound)))
-    (all-there rack table (c .1) s m) in
+    (all-there rack table (are-placed rack table h) s m) in
     record {
-      hub = leb-true (rack .hub .least) (rack .hub .most) (e .0);
-      near = omega arith;
-      some-cell = cell-time-some rack (a .0);
-      falling = falls 256 table (c .0);
+      hub = hub-ordered rack kept;
+      near = omega (arith, hub-high rack kept);
+      some-cell = λ l. line-timed rack kept l .cell-low;
+      falling = each-above 256 table (falls rack table h);
       from-probe = λ s m. sides s m .0;
       to-host = λ s m. sides s m .1;
     }

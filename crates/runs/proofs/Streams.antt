@@ -11,9 +11,8 @@ use Rattle.runs.specs.Count.{count, during, number}
 use Rattle.figures.specs.declared.streams.Stream.{Stream}
 use Rattle.figures.specs.Limits.{horizon}
 use Rattle.figures.specs.Port.{Delay}
-use Rattle.figures.specs.Tables.{_∈_, over}
+use Rattle.figures.specs.Tables.{_∈_, Distinct, over}
 use Rattle.runs.specs.Run.{Port, At, Serves}
-use Rattle.runs.specs.Promise.{Distinct}
 use Rattle.runs.proofs.Counts.{count-le, count-none}
 use Rattle.runs.proofs.During.{during-in, during-out}
 use Rattle.runs.proofs.Listed.{union-bound}

@@ -6,11 +6,11 @@ use mathlib.Core.List.{List, [], _∷_, _++_}
 use Prim.Native.Nat.{ℕ, _+_, _-_, _/_, _≤_, _<_, min}
 use native.Mathlib.Nat.{le-min, min-le-left, min-le-right}
 use native.Mathlib.Omega.{arith}
-use lib.Dec.{leb, ltb, eqb}
+use lib.Dec.{ltb, eqb}
 use lib.ListN.{length, length-append}
 use Rattle.std.specs.declared.option.Option.{Option}
 use Rattle.std.specs.declared.option.Option.the-variants.{Some, None}
-use Rattle.std.proofs.shelf.Tests.{and-from, and-parts, cases-bool, cond-both, both-ways, eqb-true, eqb-false, leb-true, le-leb, ltb-true, lt-ltb}
+use Rattle.std.proofs.shelf.Tests.{and-from, and-parts, cases-bool, cond-both, both-ways, eqb-true, eqb-false, le-leb, ltb-true, lt-ltb}
 use Rattle.arrivals.specs.Limits.{longest}
 use Rattle.arrivals.specs.Delays.{delayed}
 use Rattle.figures.specs.declared.racks.Line.{Line}
@@ -20,11 +20,14 @@ use Rattle.figures.specs.declared.racks.Side.the-variants.{Inbound, Outbound}
 use Rattle.figures.specs.declared.streams.Stream.{Stream}
 use Rattle.figures.specs.Limits.{most-streams}
 use Rattle.figures.specs.Port.{Need}
-use Rattle.figures.specs.Racks.{numbers, line-at, cell-time, spread, is-inbound, is-outbound, rack-kept}
-use Rattle.figures.specs.Tables.{_∈_, over, falls-under, placed, all-placed, table-kept, hub-bound, probe-higher, hub-higher, FirstDelay, SecondDelay, probe-load, from-line, hub-load, Delays, Needs}
+use Rattle.figures.specs.Racks.{numbers, line-at, cell-time, spread, is-inbound, is-outbound}
+use Rattle.figures.specs.Loads.{Lawful}
+use Rattle.figures.specs.Tables.{_∈_, over, Distinct, falls-under, placed, all-placed, table-kept, hub-bound, probe-higher, hub-higher, FirstDelay, SecondDelay, probe-load, from-line, hub-load, Delays, Needs}
+use Rattle.figures.proofs.GroupSums.{seen-some}
+use Rattle.figures.proofs.TableFacts.{rack-is-kept, few, falls, are-placed}
 use Rattle.runs.specs.Count.{during, number}
 use Rattle.runs.specs.Run.{brought}
-use Rattle.runs.specs.Promise.{Distinct, Lawful-kind, Figures-fall, Withdrawal, Runs-stay}
+use Rattle.runs.specs.Promise.{Figures-fall, Withdrawal, Runs-stay}
 use Rattle.runs.proofs.Counts.{some-or-none, count-none}
 use Rattle.runs.proofs.During.{during-out}
 use Rattle.runs.proofs.Listed.{sums-le, over-le, sums-without, still-in, one-or-in}
@@ -89,14 +92,11 @@ pub kept-without : {K : Type 0} (rack : Rack) (xs ys : List (Stream K)) (s : Str
     → table-kept rack (xs ++ s ∷ ys) ≡ true → table-kept rack (xs ++ ys) ≡ true
 kept-without rack xs ys s h =
     let full = xs ++ s ∷ ys in
-    let a = and-parts (rack-kept rack)
-    (leb (length full) most-streams && (falls-under 256 full && all-placed rack full)) h in
-    let b = and-parts (leb (length full) most-streams) (falls-under 256 full && all-placed rack full) (a .1) in
-    let c = and-parts (falls-under 256 full) (all-placed rack full) (b .1) in
-    let l = leb-true (length full) most-streams (b .0) in
-    and-from _ _ (a .0) (and-from _ _
+    let l = few rack full h in
+    and-from _ _ (rack-is-kept rack full h) (and-from _ _
     (le-leb (length (xs ++ ys)) most-streams (omega (arith, length-append xs ys, length-append xs (s ∷ ys))))
-    (and-from _ _ (falls-without 256 xs ys s (c .0)) (placed-without rack xs ys s (c .1))))
+    (and-from _ _ (falls-without 256 xs ys s (falls rack full h))
+    (placed-without rack xs ys s (are-placed rack full h))))
 
 pub distinct-without : {K : Type 0} (xs ys : List (Stream K)) (s : Stream K) → Distinct (xs ++ s ∷ ys)
     → Distinct (xs ++ ys)
@@ -109,22 +109,16 @@ min-le a b c d x y =
     le-min l m
 
 -- a delayed kind rises with the window and with the delay
-pub delayed-le : (f : ℕ → ℕ) → Lawful-kind f → (i j u w : ℕ) → i ≤ j → u ≤ w → delayed f i u ≤ delayed f j w
-delayed-le f g i j u w a b =
-    cond-both (eqb u 0) 0 (f (min (u + i) longest)) (λ n. n ≤ delayed f j w) (λ _. omega arith)
-    (λ e. cond-both (eqb w 0) 0 (f (min (w + j) longest)) (λ n. f (min (u + i) longest) ≤ n)
+pub delayed-le : {K : Type 0} (α : K → ℕ → ℕ) → Lawful α → (k : K) (i j u w : ℕ) → i ≤ j → u ≤ w
+    → delayed (α k) i u ≤ delayed (α k) j w
+delayed-le α lawful k i j u w a b =
+    cond-both (eqb u 0) 0 (α k (min (u + i) longest)) (λ n. n ≤ delayed (α k) j w) (λ _. omega arith)
+    (λ e. cond-both (eqb w 0) 0 (α k (min (w + j) longest)) (λ n. α k (min (u + i) longest) ≤ n)
     (λ z. absurd (eqb-false u 0 e (omega (arith, eqb-true w 0 z))))
-    (λ _. g .rises (min (u + i) longest) (min (w + j) longest)
+    (λ _. lawful .rises k (min (u + i) longest) (min (w + j) longest)
     (min-le (u + i) (w + j) longest longest (omega arith) (omega arith)) (min-le-right (w + j) longest)))
 
-pub delayed-some : (f : ℕ → ℕ) → Lawful-kind f → (j : ℕ) → 1 ≤ delayed f j 1
-delayed-some f g j =
-    let l : 1 ≤ 1 + j = omega arith in
-    let m : 1 ≤ longest = omega arith in
-    omega (arith, g .some, g .rises 1 (min (1 + j) longest) (le-min l m) (min-le-right (1 + j) longest))
-
-module _ {K : Type 0} (α : K → ℕ → ℕ) (rack : Rack) (xs ys : List (Stream K)) (s : Stream K) (lawful : (k : K)
-    → Lawful-kind (α k))
+module _ {K : Type 0} (α : K → ℕ → ℕ) (rack : Rack) (xs ys : List (Stream K)) (s : Stream K) (lawful : Lawful α)
     (q1 q2 : Stream K → ℕ) (need : ℕ → ℕ) (D : Delays α rack (xs ++ s ∷ ys) q1 q2)
     (N : Needs α rack (xs ++ s ∷ ys) q1 need) where
   abbrev full : List (Stream K)
@@ -142,7 +136,7 @@ module _ {K : Type 0} (α : K → ℕ → ℕ) (rack : Rack) (xs ys : List (Stre
   over-less p f g h = omega (arith, over-le p f g rest h, sums-without (λ z. cond (p z) (g z) 0) xs ys s)
 
   rising : (z : Stream K) (u w : ℕ) → u ≤ w → w ≤ longest → α (z .kind) u ≤ α (z .kind) w
-  rising z = lawful (z .kind) .rises
+  rising z = lawful .rises (z .kind)
 
   probe-less : (z : Stream K) → z ∈ rest → (q : ℕ) × (FirstDelay α rack rest z (Some q) × (q ≤ q1 z))
   probe-less z m =
@@ -152,7 +146,7 @@ module _ {K : Type 0} (α : K → ℕ → ℕ) (rack : Rack) (xs ys : List (Stre
       (q1 z) (D .at-probe z (still z m)) (λ w. omega arith)
       (λ w. over-less at (λ y. α (y .kind) w) (λ y. α (y .kind) w) (λ y _. omega arith))
       (rising z) (λ u w a b. over-le at (λ y. α (y .kind) u) (λ y. α (y .kind) w) rest (λ y _. rising y u w a b))
-      (lawful (z .kind) .some) in
+      (lawful .some (z .kind)) in
       (d .0, (d .1, d .2))
 
   module _ (q1′ : Stream K → ℕ) (less : (z : Stream K) → z ∈ rest → q1′ z ≤ q1 z) where
@@ -162,11 +156,11 @@ module _ {K : Type 0} (α : K → ℕ → ℕ) (rack : Rack) (xs ys : List (Stre
     later-less : (z : Stream K) → z ∈ rest → (w : ℕ) → later z w ≤ hub-bound α rack q1 z w
     later-less z m w =
         let l = less z m in
-        delayed-le (α (z .kind)) (lawful (z .kind)) (q1′ z + spread rack) (q1 z + spread rack) w w (omega arith)
+        delayed-le α lawful (z .kind) (q1′ z + spread rack) (q1 z + spread rack) w w (omega arith)
         (omega arith)
 
     later-rising : (z : Stream K) (u w : ℕ) → u ≤ w → later z u ≤ later z w
-    later-rising z u w a = delayed-le (α (z .kind)) (lawful (z .kind)) (q1′ z + spread rack) (q1′ z + spread rack) u w
+    later-rising z u w a = delayed-le α lawful (z .kind) (q1′ z + spread rack) (q1′ z + spread rack) u w
         (omega arith) a
 
     hub-less : (z : Stream K) → z ∈ rest → (q : ℕ) × (SecondDelay α rack rest q1′ z (Some q) × (q ≤ q2 z))
@@ -178,7 +172,7 @@ module _ {K : Type 0} (α : K → ℕ → ℕ) (rack : Rack) (xs ys : List (Stre
         (λ w. over-less at (λ y. later y w) (λ y. hub-bound α rack q1 y w) (λ y n. later-less y n w))
         (λ u w a b. later-rising z u w a)
         (λ u w a b. over-le at (λ y. later y u) (λ y. later y w) rest (λ y _. later-rising y u w a))
-        (delayed-some (α (z .kind)) (lawful (z .kind)) (q1′ z + spread rack)) in
+        (seen-some α lawful (Some (q1′ z + spread rack)) (z .kind)) in
         (d .0, (d .1, d .2))
 
     from-line-less : (l u : ℕ) (line : Option Line) (i : ℕ)

@@ -12,9 +12,10 @@ use Rattle.figures.specs.declared.racks.Rack.{Rack}
 use Rattle.figures.specs.declared.racks.Side.{Side}
 use Rattle.figures.specs.declared.racks.Side.the-variants.{Inbound, Outbound}
 use Rattle.figures.specs.declared.streams.Stream.{Stream}
+use Rattle.figures.specs.Loads.{Lawful}
 use Rattle.figures.specs.Tables.{total, Passing}
 use Rattle.runs.specs.Run.{Run, probe-port, hub-port, held, reaches, way, Keeps}
-use Rattle.runs.specs.Promise.{One-place-each, Lawful-kind}
+use Rattle.runs.specs.Promise.{One-place-each}
 
 -- a line of either side, that sends a cell in 3 ticks over 1 tick more, from a port with one place
 abbrev pub line : Side → Line
@@ -61,7 +62,7 @@ run =
 -- cell's sending, holds as many cells as it needs
 pub record Reached : Type 0 where
   pub places : One-place-each rack
-  pub lawful : (kind : Message) → Lawful-kind (message-alpha kind)
+  pub lawful : Lawful message-alpha
   pub passes : Passing message-alpha rack table
   pub keeps : Keeps message-alpha rack table run
   pub arrives : reaches rack run 0 < run .end

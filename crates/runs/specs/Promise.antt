@@ -4,14 +4,11 @@ use mathlib.Core.Bool.{true}
 use mathlib.Core.List.{List, _∷_, _++_}
 use Prim.Native.Nat.{ℕ, _≤_, _<_}
 use lib.ListN.{length}
-use Rattle.std.specs.declared.option.Option.{Option}
-use Rattle.std.specs.declared.option.Option.the-variants.{Some, None}
-use Rattle.arrivals.specs.Limits.{longest, most}
-use Rattle.figures.specs.declared.racks.Line.{Line}
 use Rattle.figures.specs.declared.racks.Rack.{Rack}
 use Rattle.figures.specs.declared.streams.Stream.{Stream}
-use Rattle.figures.specs.Racks.{numbers, line-at, is-inbound, is-outbound}
-use Rattle.figures.specs.Tables.{_∈_, table-kept, total, Delays, Needs, Passing}
+use Rattle.figures.specs.Loads.{Lawful}
+use Rattle.figures.specs.Racks.{numbers, line-at, places-of, is-inbound, is-outbound}
+use Rattle.figures.specs.Tables.{_∈_, Distinct, table-kept, total, Delays, Needs, Passing}
 use Rattle.runs.specs.Run.{Run, probe-port, hub-port, held, way, Keeps}
 
 -- in the run r no cell is longer on its way than `longest-way` of its stream, and no port holds more cells at any tick
@@ -24,22 +21,6 @@ pub record Kept {K : Type 0} (rack : Rack) (r : Run K) (longest-way : Stream K �
 -- the rack's list has a place for each number of a line and no more: in the code it is an array of that size
 abbrev pub One-place-each : Rack → Type 0
 One-place-each rack = length (rack .lines) ≡ length numbers
-
--- no two streams of the table have one number
-abbrev pub Distinct : {K : Type 0} → List (Stream K) → Type 0
-Distinct {K} table = (s z : Stream K) → s ∈ table → z ∈ table → s .number ≡ z .number → s ≡ z
-
--- the laws of an arrival bound
-pub record Lawful-kind (α : ℕ → ℕ) : Type 0 where
-  pub none : α 0 ≡ 0
-  pub some : 1 ≤ α 1
-  pub rises : (v w : ℕ) → v ≤ w → w ≤ longest → α v ≤ α w
-  pub small : (w : ℕ) → w ≤ longest → α w ≤ most
-
--- the places of the line's port; a missing line has none
-abbrev pub places-of : Option Line → ℕ
-places-of (Some line) = line .places
-places-of None = 0
 
 module _ (K : Type 0) where
   -- Where a sound table has its figures, no cell is longer on its way than its stream's total, and no port holds more
@@ -59,13 +40,13 @@ module _ (K : Type 0) where
   -- A table that passes still does without one of its streams.
   abbrev pub Withdrawal : Type 0
   Withdrawal =
-      (α : K → ℕ → ℕ) (rack : Rack) (before after : List (Stream K)) (s : Stream K) → ((k : K) → Lawful-kind (α k))
+      (α : K → ℕ → ℕ) (rack : Rack) (before after : List (Stream K)) (s : Stream K) → Lawful α
       → Passing α rack (before ++ s ∷ after) → Passing α rack (before ++ after)
 
   -- Without one of its streams a table still has its figures, and none of them is greater.
   abbrev pub Figures-fall : Type 0
   Figures-fall =
-      (α : K → ℕ → ℕ) (rack : Rack) (before after : List (Stream K)) (s : Stream K) → ((k : K) → Lawful-kind (α k))
+      (α : K → ℕ → ℕ) (rack : Rack) (before after : List (Stream K)) (s : Stream K) → Lawful α
       → Distinct (before ++ s ∷ after) → (q1 q2 : Stream K → ℕ) (need : ℕ → ℕ)
       → Delays α rack (before ++ s ∷ after) q1 q2 → Needs α rack (before ++ s ∷ after) q1 need
       → (q1′ : Stream K → ℕ) × (q2′ : Stream K → ℕ) × (need′ : ℕ → ℕ)
