@@ -3,7 +3,7 @@
 
 Usage: tools/linear_planner.py FILE
 
-Written from docs/MODEL.md alone; it shares nothing with the proved crates. FILE has one item a line,
+It follows docs/MODEL.md and shares no code with the proved crates. FILE has one item a line,
 '#' starts a comment, and the streams stand in table order:
     hub M_LEAST M_MOST
     line NUMBER in|out CELL_TIME PROPAGATION PLACES
