@@ -5,7 +5,7 @@ ghost use Prim.Native.Nat.{ℕ, _+_, _≤_};
 ghost use lib.ListN.{length};
 ghost use Rattle.std.specs.declared.option.Option.the-variants.{Some};
 ghost use Rattle.figures.specs.Limits.{longest-switch, longest-cell, longest-propagation};
-ghost use Rattle.figures.specs.Racks.{line-at, cell-time, sending, spread, hub-kept, line-kept, lines-kept, rack-kept};
+ghost use Rattle.figures.specs.Racks.{line-at, is-inbound, is-outbound, cell-time, sending, spread, hub-kept, line-kept, lines-kept, rack-kept};
 
 // The hub passes a cell on after `least` to `most` ticks.
 #[derive(Clone, Copy, PartialEq, Eq, Debug)]
@@ -89,6 +89,32 @@ impl Rack {
         match self.lines.get(number as usize - 1) {
             Some(line) => *line,
             None => None,
+        }
+    }
+
+    // Whether there is an in-bound line with the number.
+    pub fn is_inbound(&self, number: u8) -> bool
+        ensures { λ r. ⌜ r ≡ is-inbound (line-at (now (self .entry)) number) ⌝ }
+    {
+        match self.line(number) {
+            Some(line) => match line.side {
+                Side::Inbound => true,
+                Side::Outbound => false,
+            },
+            None => false,
+        }
+    }
+
+    // Whether there is an out-bound line with the number.
+    pub fn is_outbound(&self, number: u8) -> bool
+        ensures { λ r. ⌜ r ≡ is-outbound (line-at (now (self .entry)) number) ⌝ }
+    {
+        match self.line(number) {
+            Some(line) => match line.side {
+                Side::Inbound => false,
+                Side::Outbound => true,
+            },
+            None => false,
         }
     }
 

@@ -57,19 +57,7 @@ fn priorities_fall<K>(streams: &[Stream<K>]) -> bool
 fn is_placed<K>(rack: &Rack, stream: &Stream<K>) -> bool
     ensures { λ r. ⌜ r ≡ placed (now (rack .entry)) (now (stream .entry)) ⌝ }
 {
-    match rack.line(stream.inbound) {
-        Some(line) => match line.side {
-            Side::Inbound => match rack.line(stream.outbound) {
-                Some(line) => match line.side {
-                    Side::Inbound => false,
-                    Side::Outbound => true,
-                },
-                None => false,
-            },
-            Side::Outbound => false,
-        },
-        None => false,
-    }
+    rack.is_inbound(stream.inbound) && rack.is_outbound(stream.outbound)
 }
 
 fn are_placed<K>(rack: &Rack, streams: &[Stream<K>]) -> bool

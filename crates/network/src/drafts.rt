@@ -9,14 +9,12 @@ ghost use Rattle.figures.specs.Limits.{most-streams};
 ghost use Rattle.figures.specs.Racks.{hub-kept, rack-kept};
 ghost use Rattle.admission.specs.declared.faults.TableFault.the-variants.{OutsideLimits};
 ghost use Rattle.network.specs.States.{line-within, unlined, line-set, bare-rack, verdict, unless};
+use crate::limits::LAST_LINE;
+use crate::limits::MOST_PLACES;
 use admission::TableFault;
 use figures::Hub;
 use figures::Line;
 use figures::Rack;
-
-const LAST_LINE: u8 = 16;
-
-const MOST_PLACES: u32 = 4_000;
 
 #[derive(Drop)]
 pub struct Draft {

@@ -1,6 +1,7 @@
 // Drafts and networks: lines, then streams in memory that the caller lends, admitted only where every check passes.
 mod calls;
 mod drafts;
+mod limits;
 mod networks;
 mod records;
 mod slices;

@@ -4,6 +4,7 @@ ghost use mathlib.Core.List.{[], _++_};
 ghost use Prim.Native.Nat.{ℕ, _+_, min};
 ghost use lib.ListN.{length, take, drop};
 ghost use Rattle.figures.specs.Limits.{most-streams};
+ghost use Rattle.figures.specs.Racks.{line-at};
 ghost use Rattle.figures.specs.Tables.{Passing};
 ghost use Rattle.network.specs.Lists.{filed};
 ghost use Rattle.network.specs.Promise.{Promised};
@@ -17,6 +18,7 @@ use crate::drafts::Draft;
 use crate::records::Records;
 use admission::TableFault;
 use arrivals::Arrival;
+use figures::Line;
 use figures::Stream;
 use figures::StreamFigures;
 
@@ -34,6 +36,20 @@ impl Draft {
 }
 
 impl<'a, K: Arrival + Copy> Network<'a, K> {
+    // The streams of the table, in falling order of priority.
+    pub fn streams(&self) -> &[Stream<K>]
+        ensures { λ r. ⌜ now r ≡ table (now (self .entry) .records) ⌝ }
+    {
+        self.records.streams()
+    }
+
+    // The record of the line with the number, if there is one.
+    pub fn line(&self, number: u8) -> Option<Line>
+        ensures { λ r. ⌜ r ≡ line-at (now (self .entry) .records .rack) number ⌝ }
+    {
+        self.records.line(number)
+    }
+
     // Files the stream where the table with it passes every check, else says why not and changes nothing.
     pub fn request(&mut self, stream: Stream<K>) -> Result<(), TableFault>
         ensures told { λ r. ⌜ Requested (K·Arrival .alpha) (state-of (now (self .entry) .records)) stream r (state-of (now (self .exit) .records)) ⌝ }

@@ -5,7 +5,7 @@ ghost use mathlib.Core.List.{_++_};
 ghost use Prim.Native.Nat.{ℕ, _+_, _<_, _≤_};
 ghost use lib.ListN.{length, take, drop};
 ghost use Rattle.std.specs.shelf.Lists.{inserted};
-ghost use Rattle.figures.specs.Racks.{is-inbound, is-outbound};
+ghost use Rattle.figures.specs.Racks.{line-at};
 ghost use Rattle.figures.specs.Tables.{table-kept, Distinct};
 ghost use Rattle.admission.specs.Checks.{CheckTold};
 ghost use Rattle.network.specs.Limits.{last-line};
@@ -14,6 +14,10 @@ ghost use Rattle.network.specs.Records.{table, state-of, Lawful};
 ghost use Rattle.network.specs.States.{fields-within, unfiled, if-passed, Requested, Withdrawn, Found, MemoryLeft, unknown-line, places-set, PlacesSet, StreamAnswer, LineAnswer};
 use super::Records;
 use crate::calls::LineFigures;
+use crate::limits::LAST_LINE;
+use crate::limits::LAST_STREAM;
+use crate::limits::LATEST_DEADLINE;
+use crate::limits::MOST_PLACES;
 use crate::slices::find_number;
 use crate::slices::find_priority;
 use crate::slices::insert_at;
@@ -26,18 +30,9 @@ use arrivals::Arrival;
 use figures::Line;
 use figures::MOST_STREAMS;
 use figures::Rack;
-use figures::Side;
 use figures::Stream;
 use figures::StreamFigures;
 use figures::Table;
-
-const LAST_STREAM: u16 = 60_000;
-
-const LAST_LINE: u8 = 16;
-
-const LATEST_DEADLINE: u32 = 500_000;
-
-const MOST_PLACES: u32 = 4_000;
 
 // Whether each field of the stream keeps its limits.
 fn has_fields_within<K>(stream: &Stream<K>) -> bool
@@ -52,30 +47,6 @@ fn has_fields_within<K>(stream: &Stream<K>) -> bool
         && stream.outbound <= LAST_LINE
         && 1 <= stream.deadline
         && stream.deadline <= LATEST_DEADLINE
-}
-
-fn is_inbound(line: Option<Line>) -> bool
-    ensures { λ r. ⌜ r ≡ is-inbound line ⌝ }
-{
-    match line {
-        Some(line) => match line.side {
-            Side::Inbound => true,
-            Side::Outbound => false,
-        },
-        None => false,
-    }
-}
-
-fn is_outbound(line: Option<Line>) -> bool
-    ensures { λ r. ⌜ r ≡ is-outbound line ⌝ }
-{
-    match line {
-        Some(line) => match line.side {
-            Side::Inbound => false,
-            Side::Outbound => true,
-        },
-        None => false,
-    }
 }
 
 // The check of the first `n` records.
@@ -141,6 +112,21 @@ impl<'a, K: Arrival + Copy> Records<'a, K> {
         }
     }
 
+    // The streams of the table.
+    pub fn streams(&self) -> &[Stream<K>]
+        requires { ⌜ now self .len ≤ length (now (now self .memory)) ⌝ }
+        ensures { λ r. ⌜ now r ≡ table (now (self .entry)) ⌝ }
+    {
+        &self.memory[0..self.len]
+    }
+
+    // The record of the line with the number, if there is one.
+    pub fn line(&self, number: u8) -> Option<Line>
+        ensures { λ r. ⌜ r ≡ line-at (now (self .entry) .rack) number ⌝ }
+    {
+        self.rack.line(number)
+    }
+
     // Why the stream is refused before its table is checked.
     fn refusal(&self, stream: &Stream<K>) -> Option<TableFault>
         requires { ⌜ now self .len ≤ length (now (now self .memory)) ⌝ }
@@ -149,10 +135,10 @@ impl<'a, K: Arrival + Copy> Records<'a, K> {
         if !has_fields_within(stream) {
             return Some(TableFault::OutsideLimits);
         }
-        if !is_inbound(self.rack.line(stream.inbound)) {
+        if !self.rack.is_inbound(stream.inbound) {
             return Some(TableFault::NoLine(stream.inbound));
         }
-        if !is_outbound(self.rack.line(stream.outbound)) {
+        if !self.rack.is_outbound(stream.outbound) {
             return Some(TableFault::NoLine(stream.outbound));
         }
         let streams = &self.memory[0..self.len];
