@@ -1,0 +1,25 @@
+// Lines come first: a draft takes them until it is closed, and its network takes none.
+use admission::TableFault;
+use arrivals::Arrival;
+use arrivals::Bucket;
+use arrivals::BucketArrival;
+use figures::Line;
+use figures::Side;
+use figures::Stream;
+use network::Draft;
+use network::LineFigures;
+
+// What a network of one line tells of this line.
+pub fn one_line(memory: &mut [Stream<Bucket>]) -> Result<LineFigures, TableFault> {
+    let line = Line {
+        side: Side::Inbound,
+        cell_time: 2,
+        propagation: 5,
+        places: 8,
+    };
+    let mut draft = Draft::new(1, 3)?;
+    draft.add_line(1, line)?;
+    let mut network = draft.close(memory);
+    network.set_places(1, 9)?;
+    network.line_figures(1)
+}
