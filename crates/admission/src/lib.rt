@@ -5,5 +5,8 @@ mod faults;
 pub use checks::check;
 pub use faults::Layer;
 pub use faults::TableFault;
+pub use faults::TableFaultDebug;
+pub use faults::TableFaultEq;
 pub use faults::TableFaultFromFigure;
 pub use faults::TableFaultFromKind;
+pub use faults::TableFaultPartialEq;
