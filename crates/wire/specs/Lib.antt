@@ -1,2 +1,5 @@
+pub mod Limits
 pub mod Faults
 pub mod Bytes
+pub mod Kinds
+pub mod Records

@@ -1,9 +1,20 @@
 // The records of a plan file: from bytes to values.
 mod bytes;
 mod faults;
+mod filed;
+mod records;
 
 pub use bytes::be16;
 pub use bytes::be32;
 pub use faults::FileFault;
 pub use faults::FileFaultFromPlaced;
 pub use faults::placed;
+pub use filed::BucketFiled;
+pub use filed::Filed;
+pub use filed::MessageFiled;
+pub use records::Kind;
+pub use records::Record;
+pub use records::Shape;
+pub use records::read_record;
+pub use records::read_shape;
+pub use records::read_stream;
