@@ -1,2 +1,4 @@
 mod Numbers
 mod Said
+mod Openings
+mod Pieces

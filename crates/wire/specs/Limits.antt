@@ -12,3 +12,7 @@ last-line = 16
 
 abbrev pub latest-deadline : ℕ
 latest-deadline = 500000
+
+-- a file has no more bytes
+abbrev pub longest-file : ℕ
+longest-file = 8000

@@ -54,8 +54,9 @@ abbrev pub shape-of : ℕ → List ℕ → Result Shape FileFault
 shape-of at [] = Err (Malformed at)
 shape-of at (code ∷ rest) =
     elim (coded code) [
-      Some shape ↦ cond (eqb (length rest) (long-of shape)) (Ok shape) (Err (Malformed at))
-    | None ↦ Err (Malformed at) ]
+      | Some shape ↦ cond (eqb (length rest) (long-of shape)) (Ok shape) (Err (Malformed at))
+      | None ↦ Err (Malformed at)
+    ]
 
 abbrev pub side-of : ℕ → Option Side
 side-of byte = cond (eqb byte 0) (Some Inbound) (cond (eqb byte 1) (Some Outbound) None)
@@ -64,8 +65,9 @@ side-of byte = cond (eqb byte 0) (Some Inbound) (cond (eqb byte 1) (Some Outboun
 abbrev pub line-of : {K : Type 0} → List ℕ → Result (Record K) TableFault
 line-of rest =
     elim (side-of (number-at rest 1 1)) [
-      Some side ↦ Ok (said.Line (number-at rest 0 1) (record { side = side; «cell_time» = number-at rest 2 2; propagation = number-at rest 4 2; places = number-at rest 6 2 }))
-    | None ↦ Err OutsideLimits ]
+      | Some side ↦ Ok (said.Line (number-at rest 0 1) (record { side = side; «cell_time» = number-at rest 2 2; propagation = number-at rest 4 2; places = number-at rest 6 2 }))
+      | None ↦ Err OutsideLimits
+    ]
 
 -- each field that every stream has keeps its limits
 abbrev pub within : ℕ → ℕ → ℕ → ℕ → ℕ → Bool
@@ -77,8 +79,9 @@ abbrev pub stream-of : {K : Type 0} → (List ℕ → Result K KindFault) → Li
 stream-of filed rest =
     cond (within (number-at rest 0 2) (number-at rest 2 1) (number-at rest 3 1) (number-at rest 4 1) (number-at rest 5 4))
     (elim (filed (drop 9 rest)) [
-      Ok kind ↦ Ok (record { number = number-at rest 0 2; priority = number-at rest 2 1; inbound = number-at rest 3 1; outbound = number-at rest 4 1; deadline = number-at rest 5 4; kind = kind })
-    | Err fault ↦ Err (of-kind fault) ])
+      | Ok kind ↦ Ok (record { number = number-at rest 0 2; priority = number-at rest 2 1; inbound = number-at rest 3 1; outbound = number-at rest 4 1; deadline = number-at rest 5 4; kind = kind })
+      | Err fault ↦ Err (of-kind fault)
+    ])
     (Err OutsideLimits)
 
 abbrev pub with-kind : {F K : Type 0} → (F → K) → Stream F → Stream K
@@ -102,5 +105,6 @@ values-of shapes.Places rest = Ok (said.Places (number-at rest 0 1) (number-at r
 abbrev pub record-of : ℕ → List ℕ → Result (Record (Choice Message Bucket)) FileFault
 record-of at bytes =
     elim (shape-of at bytes) [
-      Ok shape ↦ with-place at (values-of shape (drop 1 bytes))
-    | Err fault ↦ Err fault ]
+      | Ok shape ↦ with-place at (values-of shape (drop 1 bytes))
+      | Err fault ↦ Err fault
+    ]

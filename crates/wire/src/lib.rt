@@ -2,7 +2,9 @@
 mod bytes;
 mod faults;
 mod filed;
+mod opening;
 mod records;
+mod walkers;
 
 pub use bytes::be16;
 pub use bytes::be32;
@@ -12,9 +14,12 @@ pub use faults::placed;
 pub use filed::BucketFiled;
 pub use filed::Filed;
 pub use filed::MessageFiled;
+pub use opening::open;
 pub use records::Kind;
 pub use records::Record;
 pub use records::Shape;
 pub use records::read_record;
 pub use records::read_shape;
 pub use records::read_stream;
+pub use walkers::Placed;
+pub use walkers::Walker;

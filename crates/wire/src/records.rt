@@ -247,8 +247,6 @@ pub fn read_record(at: usize, bytes: &[u8]) -> Result<Record<Kind>, FileFault>
     ensures { λ r. ⌜ r ≡ record-of at (now (bytes .entry)) ⌝ }
 {
     let shape = read_shape(at, bytes)?;
-    let [_, rest @ ..] = bytes else {
-        return Err(FileFault::Malformed(at));
-    };
+    let [_, rest @ ..] = bytes else { unreachable() };
     placed(at, values(shape, rest))
 }
