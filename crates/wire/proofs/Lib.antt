@@ -1,0 +1,5 @@
+mod Numbers
+mod Said
+mod Openings
+mod Pieces
+mod Joins
