@@ -1,5 +1,5 @@
 -- Texts that are laid at the start of a buffer, one behind the other.
-use Prim.Native.Nat.{ℕ, suc, zero-le, _+_, _-_, _≤_, _<_}
+use Prim.Native.Nat.{ℕ, suc, _+_, _-_, _≤_, _<_}
 use native.Mathlib.Numerals.{add-one}
 use mathlib.Core.List.{List, [], _∷_, _++_, append-assoc, append-nil}
 use mathlib.Core.Path.{_≡_, refl, ap, sym, _∙_}
@@ -27,9 +27,6 @@ laid-more xs t u l m n b second fits =
     second ∙ ap (λ q. u ++ drop (length u) q) (take-rest l n ∙ d) ∙ ap (λ q. u ++ q) (drop-drop (length u) (length t) xs) in
     let z : drop (length l - n) (drop n l) ≡ [] = drop-all (length l - n) (drop n l) (simp length-drop (omega arith)) in
     rw (f, w, z) (simp (append-nil, append-assoc, length-append))
-
-pub begun-none : (xs : List ℕ) → Begun xs [] xs 0
-begun-none xs = record { holds = refl; ends = refl; within = zero-le }
 
 pub begun-more : (xs t u l m : List ℕ) (n k : ℕ) → Begun xs t l n → m ≡ laid u (take (length l - n) (drop n l)) → k ≡ length u → length t + length u ≤ length xs
     → Begun xs (t ++ u) (putMid n (length l - n) l m) (n + k)

@@ -22,7 +22,7 @@ pub enum Entry {
         number: u8,
         party: u16,
     },
-    // The file was not read beyond this byte.
+    // Reading stopped at this byte, by the refusal of this number.
     Stopped {
         at: u32,
         number: u8,
@@ -60,6 +60,7 @@ impl Entry {
         write_words(&self.words(), out)
     }
 
+    // The words of its line.
     fn words(&self) -> [Word; MOST_WORDS]
         ensures { λ r. ⌜ text-of r ≡ line-text (now (self .entry)) ⌝ }
     {
@@ -90,34 +91,46 @@ impl Entry {
                 q1,
                 q2,
                 total,
-            } => filled(
-                &[
-                    Word::Stream,
-                    Word::Number(u32::from(number)),
-                    Word::Q1,
-                    Word::Number(q1),
-                    Word::Q2,
-                    Word::Number(q2),
-                    Word::Total,
-                    Word::Number(total),
-                    Word::End,
-                ],
-            ),
+            } => stream_words(number, q1, q2, total),
             Entry::Line {
                 number,
                 need,
                 places,
-            } => filled(
-                &[
-                    Word::Line,
-                    Word::Number(u32::from(number)),
-                    Word::Need,
-                    Word::Number(need),
-                    Word::Of,
-                    Word::Number(places),
-                    Word::End,
-                ],
-            ),
+            } => line_words(number, need, places),
         }
     }
+}
+
+fn stream_words(number: u16, q1: u32, q2: u32, total: u32) -> [Word; MOST_WORDS]
+    ensures { λ r. ⌜ text-of r ≡ line-text (Entry.Stream number q1 q2 total) ⌝ }
+{
+    filled(
+        &[
+            Word::Stream,
+            Word::Number(u32::from(number)),
+            Word::Q1,
+            Word::Number(q1),
+            Word::Q2,
+            Word::Number(q2),
+            Word::Total,
+            Word::Number(total),
+            Word::End,
+        ],
+    )
+}
+
+fn line_words(number: u8, need: u32, places: u32) -> [Word; MOST_WORDS]
+    ensures { λ r. ⌜ text-of r ≡ line-text (Entry.Line number need places) ⌝ }
+{
+    filled(
+        &[
+            Word::Line,
+            Word::Number(u32::from(number)),
+            Word::Need,
+            Word::Number(need),
+            Word::Of,
+            Word::Number(places),
+            Word::End,
+        ],
+    )
 }

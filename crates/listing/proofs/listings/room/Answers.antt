@@ -1,7 +1,6 @@
-use mathlib.Core.Path.{ap, _∙_}
+use mathlib.Core.Path.{ap}
 use lib.ListN.{length}
 use native.Mathlib.Omega.{arith}
-use borrow.Author.Needs.{needs}
 use Rattle.listing.specs.declared.entries.Entry.the-variants.{Done}
 use Rattle.listing.specs.Text.{line-text}
 use Rattle.listing.proofs.Lays.{front-room, front-all}

@@ -2,7 +2,6 @@ use Prim.Native.Nat.{ℕ, zero, suc, _-_}
 use mathlib.Core.List.{[], _++_, append-nil}
 use mathlib.Core.Path.{_≡_, refl, ap, _∙_}
 use lib.ListN.{length, drop, replicate}
-use Rattle.listing.specs.declared.words.Word.{Word}
 use Rattle.listing.specs.declared.words.Word.the-variants.{Nothing}
 use Rattle.listing.specs.Text.{word-text, text-of}
 use Rattle.listing.proofs.Lays.{joined-++}

@@ -1,12 +1,10 @@
-use Prim.Native.Nat.{_+_, _≤_}
-use mathlib.Core.Path.{ap, _∙_}
-use lib.ListN.{length, take, getD, length-drop}
+use lib.ListN.{take, getD, length-drop}
 use native.Mathlib.Omega.{arith}
 use borrow.Author.Needs.{needs}
 use Rattle.listing.specs.declared.words.Word.the-variants.{Nothing}
 use Rattle.listing.specs.Text.{word-text, text-of}
 use Rattle.std.proofs.shelf.Lists.{take-rest}
-use Rattle.listing.proofs.Lays.{Begun, begun-more, front-more, next-fits, front-all}
+use Rattle.listing.proofs.Lays.{begun-more, front-more, next-fits, front-all}
 use Rattle.listing.proofs.words.write_words.Needs as need
 
 pub write-end-requires : need.write-end-requires
