@@ -1,0 +1,2 @@
+mod Lays
+mod Digits
