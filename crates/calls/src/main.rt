@@ -71,9 +71,9 @@ fn print_call(rt: LibcRuntime, call: &Call<Kind>) -> io::Result<()> {
         Call::Request(stream) => {
             let number = stream.number;
             let deadline = stream.deadline;
-            print!(rt, "request {number} deadline {deadline}: ")
+            print!(rt, "request stream {number} deadline {deadline}: ")
         }
-        Call::Withdraw(number) => print!(rt, "withdraw {number}: "),
+        Call::Withdraw(number) => print!(rt, "withdraw stream {number}: "),
         Call::SetPlaces(line, places) => print!(rt, "places of line {line} to {places}: "),
         Call::OfStream(number) => print!(rt, "stream {number}: "),
         Call::OfLine(number) => print!(rt, "line {number}: "),
