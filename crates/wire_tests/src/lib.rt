@@ -45,27 +45,91 @@ mod tests {
         };
         check_eq(number, 9)?;
         check(matches!(line.side, Side::Outbound))?;
-        check_eq((line.cell_time, line.propagation, line.places), (770, 260, 517))?;
+        check_eq(
+            (line.cell_time, line.propagation, line.places),
+            (770, 260, 517),
+        )?;
         check_eq(refusal(&[2, 9, 2, 3, 2, 1, 4, 2, 5]), 6)
     }
 
     #[test]
     fn streams() -> Result<(), Fail> {
-        let message = [3, 1, 2, 5, 1, 2, 0, 0, 1, 4, 0, 0, 0, 20, 0, 0, 1, 0, 0, 3, 0, 0, 0, 2];
+        let message = [
+            3,
+            1,
+            2,
+            5,
+            1,
+            2,
+            0,
+            0,
+            1,
+            4,
+            0,
+            0,
+            0,
+            20,
+            0,
+            0,
+            1,
+            0,
+            0,
+            3,
+            0,
+            0,
+            0,
+            2,
+        ];
         let Record::Stream(stream) = read_record(1, &message)? else {
             return Err(Fail::new("no stream"));
         };
-        check_eq((stream.number, stream.priority, stream.inbound, stream.outbound), (258, 5, 1, 2))?;
+        check_eq(
+            (
+                stream.number,
+                stream.priority,
+                stream.inbound,
+                stream.outbound,
+            ),
+            (258, 5, 1, 2),
+        )?;
         check_eq(stream.deadline, 260)?;
         let Choice::First(kind) = stream.kind else {
             return Err(Fail::new("no message"));
         };
-        check_eq((kind.period, kind.jitter, kind.cells, kind.gap), (20, 256, 3, 2))
+        check_eq(
+            (kind.period, kind.jitter, kind.cells, kind.gap),
+            (20, 256, 3, 2),
+        )
     }
 
     #[test]
     fn limits_come_before_the_period() -> Result<(), Fail> {
-        let mut message = [3, 1, 2, 5, 1, 2, 0, 0, 1, 4, 0, 0, 0, 20, 0, 0, 1, 0, 0, 3, 0, 0, 0, 7];
+        let mut message = [
+            3,
+            1,
+            2,
+            5,
+            1,
+            2,
+            0,
+            0,
+            1,
+            4,
+            0,
+            0,
+            0,
+            20,
+            0,
+            0,
+            1,
+            0,
+            0,
+            3,
+            0,
+            0,
+            0,
+            7,
+        ];
         check_eq(refusal(&message), 7)?;
         message[4] = 17;
         check_eq(refusal(&message), 6)
