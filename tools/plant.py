@@ -42,7 +42,7 @@ def blocks(path):
 
 def first_error(log):
     """What refused the bug: a function's or an impl's unproved need, or an error of the proof text."""
-    wanted = re.compile(r"(fn|impl|trait|law) .*: (no proof|not proved|refused)|.*: error: |error")
+    wanted = re.compile(r"(fn|impl|trait|law) .*: (no proof|not proved|refused)|.*: error[:\[]|error")
     for line in log.splitlines():
         if wanted.match(line) and "waits for" not in line and "prove it first" not in line:
             return re.sub(r"/\S*/crates/", "", line)
