@@ -1,4 +1,6 @@
 // Tests of the arrival kinds, by tables of hand-made cases.
+#![tactic(auto)]
+
 #[cfg(test)]
 mod tests {
     use arrivals::{Arrival, Bucket, Choice, Delayed, KindFault, Message};

@@ -1,4 +1,6 @@
 // Carries out calls on a network of two lines, and prints each answer and the figures after it.
+#![tactic(auto)]
+
 use admission::TableFault;
 use arrivals::{Arrival, Bucket, Choice, Message};
 use figures::{Line, MOST_STREAMS, Side, Stream};

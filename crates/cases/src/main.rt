@@ -1,4 +1,6 @@
 // Lists many small plan files, and says how many of the answers agree with the expected ones.
+#![tactic(auto)]
+
 mod judging;
 mod reading;
 

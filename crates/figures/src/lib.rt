@@ -1,4 +1,6 @@
 // Delays over two hops, and the places that each port needs, for any arrival kind.
+#![tactic(auto)]
+
 mod delays;
 mod faults;
 mod groups;

@@ -1,4 +1,6 @@
 // Tests of the figures, by tables of cases worked out by hand.
+#![tactic(auto)]
+
 #[cfg(test)]
 mod tests {
     use arrivals::{Arrival, Message};

@@ -1,5 +1,7 @@
 // Prints the figures of a full table: 64 streams over 8 in-bound and 8 out-bound lines, each of which is
 // busy about nine ticks of ten.
+#![tactic(auto)]
+
 use arrivals::{Arrival, Bucket, Choice, Message};
 use figures::{FigureFault, Figures, Hub, Line, MOST_STREAMS, Rack, Side, Stream, Table};
 use std::io;

@@ -1,4 +1,6 @@
 // The lines of a plan's listing, written as text into a buffer of the caller's.
+#![tactic(auto)]
+
 mod entries;
 mod listings;
 mod numbers;

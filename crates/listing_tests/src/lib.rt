@@ -1,4 +1,6 @@
 // Tests of the listing: the lines of a worked plan, and buffers that are just long enough and a byte too short.
+#![tactic(auto)]
+
 #[cfg(test)]
 mod tests {
     use listing::{Entry, NoRoom, room, write_listing};

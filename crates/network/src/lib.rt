@@ -1,4 +1,6 @@
 // Drafts and networks: lines, then streams in memory that the caller lends, admitted only where every check passes.
+#![tactic(auto)]
+
 mod calls;
 mod drafts;
 mod networks;

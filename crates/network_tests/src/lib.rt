@@ -1,4 +1,6 @@
 // Tests of drafts and networks, by tables of cases worked out by hand.
+#![tactic(auto)]
+
 #[cfg(test)]
 mod tests {
     use admission::TableFault;

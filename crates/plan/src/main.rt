@@ -1,4 +1,6 @@
 // Reads a plan file from standard input, and writes its listing.
+#![tactic(auto)]
+
 use arrivals::{Bucket, Choice};
 use figures::{MOST_STREAMS, Stream};
 use planfile::{LONGEST_LISTING, list_plan};

@@ -1,4 +1,6 @@
 // The figures of one port, for any load: the longest wait there, and the places that it needs.
+#![tactic(auto)]
+
 mod loads;
 mod needs;
 mod waits;

@@ -1,4 +1,6 @@
 // Lines come first: a draft takes them until it is closed, and its network takes none.
+#![tactic(auto)]
+
 use admission::TableFault;
 use arrivals::{Arrival, Bucket};
 use figures::{Line, Side, Stream};

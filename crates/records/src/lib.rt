@@ -1,4 +1,6 @@
 // The records of a network: the rack, and the table in the memory that the caller lends, with what each call does to them.
+#![tactic(auto)]
+
 mod limits;
 mod lines;
 mod records;

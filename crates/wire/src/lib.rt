@@ -1,4 +1,6 @@
 // The records of a plan file: from bytes to values.
+#![tactic(auto)]
+
 mod bytes;
 mod faults;
 mod filed;

@@ -1,4 +1,6 @@
 // Tests of the plan file's records, by bytes written out by hand.
+#![tactic(auto)]
+
 #[cfg(test)]
 mod tests {
     use arrivals::Choice;

@@ -1,4 +1,6 @@
 // Prints the figures of a small plan: two streams over one in-bound and one out-bound line.
+#![tactic(auto)]
+
 use arrivals::{Arrival, Bucket, Choice, Message};
 use figures::{FigureFault, Figures, Hub, Line, Rack, Side, Stream, Table};
 use std::io;
