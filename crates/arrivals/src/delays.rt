@@ -35,7 +35,7 @@ impl<K: Arrival> Arrival for Delayed<K> {
         omega (arith, m.some k.kind, m.rises k.kind 1 (min (1 + k.by) longest) (omega arith) (omega arith)) };
 
     ghost rises = { λ k v w h long.
-        windowed-rises _ _ v w h
+        windowed_rises _ _ v w h
         (K.Arrival.rises k.kind (min (v + k.by) longest) (min (w + k.by) longest) (omega arith) (omega arith)) };
 
     ghost small = { Prim.search rules };

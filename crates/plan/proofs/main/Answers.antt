@@ -5,7 +5,7 @@ use Rattle.plan.proofs.main.Goals as goal
 
 pub unreachable-requires : goal.unreachable-requires
 unreachable-requires c =
-    let lent = c.deref-mut.ensures.len in
-    let made = c.in-ok-out.ensures.made in
-    let large : 151110 ≤ length c.deref-mut.result.now = omega (arith, lent, made) in
-    false≢true (c.in-default.ensures.roomy large)
+    let lent = c.deref_mut.ensures.len in
+    let made = c.in_ok-out.ensures.made in
+    let large : 151110 ≤ length c.deref_mut.result.now = omega (arith, lent, made) in
+    false≢true (c.in_default.ensures.roomy large)

@@ -4,16 +4,16 @@ use Rattle.std.proofs.lemmas.Bool.{cases_lt}
 use Rattle.admission.specs.Checks.{LineTold}
 use Rattle.admission.proofs.checks.check_lines.Goals as goal
 
-pub returns-in-err-check-line : goal.returns-in-err-check-line
-returns-in-err-check-line g c =
-    let p = err_from_is_err_and c.from-residual.result c.from-residual.ensures.1 in
+pub returns-in_err-check_line : goal.returns-in_err-check_line
+returns-in_err-check_line g c =
+    let p = err_from_is_err_and c.from_residual.result c.from_residual.ensures.1 in
     rw (p.1, p.2)
     (λ q1 listed. record {
       line = c.loop-number.number;
       low = c.loop-number.auto.number;
       high = omega (arith, c.loop-number-test.true);
       earlier = λ l low less. c.loop-number.invariant l low less q1 listed;
-      fails = c.in-err-check-line.ensures q1 listed;
+      fails = c.in_err-check_line.ensures q1 listed;
     })
 
 pub loop-number-preserved : goal.loop-number-preserved
@@ -23,7 +23,7 @@ loop-number-preserved g c m low less =
       | inl before ↦ c.loop-number.invariant m low before
       | inr after ↦
           let here : n ≡ m = omega arith in
-          subst (λ k. LineTold g.K.Arrival.alpha c.args.rack.now c.args.table.now.streams.now c.args.delays.now k (Ok tt)) here c.in-ok-check-line.ensures
+          subst (λ k. LineTold g.K.Arrival.alpha c.args.rack.now c.args.table.now.streams.now c.args.delays.now k (Ok tt)) here c.in_ok-check_line.ensures
     ]
 
 pub returns : goal.returns

@@ -2,7 +2,7 @@ use Rattle.std.proofs.Common.{◌≤◌, length, subst, inl, inr, arith}
 use Rattle.figures.specs.Told.{StreamTold}
 use Rattle.admission.proofs.Parts.{InTimeBelow, in_time_more, first_late, all_in_time}
 use Rattle.admission.proofs.checks.late_stream.Goals as goal
-use Rattle.admission.proofs.checks.late_stream.Goals.{in-Some+else-figures-stream, in-default}
+use Rattle.admission.proofs.checks.late_stream.Goals.{in-Some+else-figures-stream, in_default}
 
 pub loop-place-init : goal.loop-place-init
 loop-place-init g c q1 q2 first second j less d = absurd (omega arith)
@@ -17,12 +17,12 @@ pub loop-place-preserved : goal.loop-place-preserved
 loop-place-preserved g c =
     let rack = c.args.table.now.rack.now in
     let i = c.loop-place.place in
-    elim c.match-of-stream.branch [
+    elim c.match-of_stream.branch [
       | in-Some+else-figures-stream w ↦
           in_time_more rack c.args.streams.now c.args.delays.now i w.in-Some.figures c.index-streams-place.result
           (subst (λ t. StreamTold rack t c.args.delays.now i w.in-Some.figures) c.requires w.in-Some.ensures) c.index-streams-place.is w.if-figures-stream.false c.loop-place.invariant
-      | in-default w ↦
-          let past : length c.args.streams.now ≤ i = subst (λ t. length t ≤ i) c.requires w.in-default.ensures in
+      | in_default w ↦
+          let past : length c.args.streams.now ≤ i = subst (λ t. length t ≤ i) c.requires w.in_default.ensures in
           absurd (omega (arith, c.loop-place-test.true))
     ]
 

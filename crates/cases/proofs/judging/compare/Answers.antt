@@ -13,5 +13,5 @@ pub loop-place-preserved : goal.loop-place-preserved
 loop-place-preserved c =
     let place = c.loop-place.place in
     below_more _ _ c.loop-place.invariant
-    (c.if-byte-expected.false ∙ c.unwrap-or-expected.ensures ∙ ap (λ o. unwrap_or o 165) c.copied.ensures
+    (c.if-byte-expected.false ∙ c.unwrap_or-expected.ensures ∙ ap (λ o. unwrap_or o 165) c.copied.ensures
     ∙ found_or c.args.text.now place 165 c.get.result c.get.ensures.lookup)

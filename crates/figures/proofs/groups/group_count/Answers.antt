@@ -13,8 +13,8 @@ lawful g =
     let m = g.met.K.Arrival in
     record { none = m.none; some = m.some; rises = m.rises; small = m.small }
 
-pub overflow-add-sum : goal.overflow-add-sum
-overflow-add-sum g c =
+pub overflow_add-sum : goal.overflow_add-sum
+overflow_add-sum g c =
     omega (arith, seen_small g.K.Arrival.alpha (lawful g) (get_or c.args.late.now c.loop-place.place None) c.index-streams-place.result.kind (min c.args.window longest) (omega arith))
 
 pub loop-place-preserved : goal.loop-place-preserved
@@ -30,7 +30,7 @@ loop-place-preserved g c =
     elim c.if-has.branch [
       | then-has x ↦
           let s : share α late group w i e ≡ seen α (get_or late i None) e.kind w = cond-true _ _ _ (sym c.has.ensures ∙ x.if-has.true) in
-          let n = x.seen-count-sum.ensures in
+          let n = x.seen_count-sum.ensures in
           (omega (arith, x.sum-is), omega (arith, x.sum-is))
       | else-has x ↦
           let s : share α late group w i e ≡ 0 = cond-false _ _ _ (sym c.has.ensures ∙ x.if-has.false) in

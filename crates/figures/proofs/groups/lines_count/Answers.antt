@@ -8,7 +8,7 @@ pub loop-line-preserved : goal.loop-line-preserved
 loop-line-preserved g c =
     let load = lines_load g.K.Arrival.alpha c.args.late.now c.args.rack.now c.args.streams.now c.args.outbound (min c.args.window longest) in
     let more = ap load (drop_more c.args.inbound.now c.loop-line.line-index 0 c.loop-line-test.true) in
-    (omega (arith, c.line-count-sum.ensures.small), omega (arith, more, c.line-count-sum.ensures.value))
+    (omega (arith, c.line_count-sum.ensures.small), omega (arith, more, c.line_count-sum.ensures.value))
 
 pub returns : goal.returns
 returns g c =

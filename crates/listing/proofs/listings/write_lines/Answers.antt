@@ -9,8 +9,8 @@ pub write-end-requires : goal.write-end-requires
 write-end-requires c =
     let m = next_fits line_text c.args.entries.now c.loop-entry.entry-index (Done 0) c.loop-entry-test.true in simp (take_rest, length-drop) (omega arith)
 
-pub overflow-add-end : goal.overflow-add-end
-overflow-add-end c =
+pub overflow_add-end : goal.overflow_add-end
+overflow_add-end c =
     let m = next_fits line_text c.args.entries.now c.loop-entry.entry-index (Done 0) c.loop-entry-test.true in search rules
 
 pub loop-entry-preserved : goal.loop-entry-preserved

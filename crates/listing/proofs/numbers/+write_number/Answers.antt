@@ -17,15 +17,15 @@ returns-then-n-lt10 t c =
           ∙ ap (λ s. laid s c.args.out.now) (sym (decimal_digit c.args.n c.if-n-lt10.true));
     }
 
-pub write-number-last-requires : goal.write-number-last-requires
-write-number-last-requires t c =
+pub write_number-last-requires : goal.write_number-last-requires
+write_number-last-requires t c =
     let d = decimal_length c.args.n c.if-n-lt10.false (search rules) in (search rules, omega arith)
 
 pub bounds-out-last : goal.bounds-out-last
 bounds-out-last t c = let d = decimal_length c.args.n c.if-n-lt10.false (search rules) in omega arith
 
-pub overflow-add-result : goal.overflow-add-result
-overflow-add-result t c = let d = decimal_length c.args.n c.if-n-lt10.false (search rules) in search rules
+pub overflow_add-result : goal.overflow_add-result
+overflow_add-result t c = let d = decimal_length c.args.n c.if-n-lt10.false (search rules) in search rules
 
 pub returns : goal.returns
 returns t c =
@@ -34,6 +34,6 @@ returns t c =
     let d = decimal_length n c.if-n-lt10.false (search rules) in
     record {
       count = omega arith;
-      after = laid_byte xs (decimal (n / 10)) _ (48 + n % 10) c.write-number-last.result c.write-number-last.ensures.after c.write-number-last.ensures.count (omega arith)
+      after = laid_byte xs (decimal (n / 10)) _ (48 + n % 10) c.write_number-last.result c.write_number-last.ensures.after c.write_number-last.ensures.count (omega arith)
           ∙ ap (λ s. laid s xs) (sym (decimal_step n c.if-n-lt10.false (search rules)));
     }

@@ -13,5 +13,5 @@ nothing_text (suc k) (suc m) = nothing_text k m
 pub returns : goal.returns
 returns c =
     let ws = c.args.words.now in
-    ap (λ t. text_of (t ++ drop (length ws - 0) (replicate 9 Nothing))) c.copy-from-slice.ensures.after
+    ap (λ t. text_of (t ++ drop (length ws - 0) (replicate 9 Nothing))) c.copy_from_slice.ensures.after
     ∙ joined-++ word_text ws (drop (length ws - 0) (replicate 9 Nothing)) ∙ ap (λ t. text_of ws ++ t) (nothing_text (length ws - 0) 9) ∙ append-nil (text_of ws)

@@ -9,8 +9,8 @@ pub write-end-requires : goal.write-end-requires
 write-end-requires c =
     let m = next_fits word_text c.args.words.now c.loop-word.word-index Nothing c.loop-word-test.true in simp (take_rest, length-drop) (omega arith)
 
-pub overflow-add-end : goal.overflow-add-end
-overflow-add-end c =
+pub overflow_add-end : goal.overflow_add-end
+overflow_add-end c =
     let m = next_fits word_text c.args.words.now c.loop-word.word-index Nothing c.loop-word-test.true in search rules
 
 pub loop-word-preserved : goal.loop-word-preserved

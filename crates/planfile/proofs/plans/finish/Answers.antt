@@ -8,31 +8,31 @@ use Rattle.planfile.specs.Stages.{networked}
 use Rattle.planfile.proofs.Whole.{finishes, streams_length}
 use Rattle.planfile.proofs.plans.finish.Goals as goal
 
-pub returns-in-err-run : goal.returns-in-err-run
-returns-in-err-run c =
-    let p = err_from_is_err_and c.from-residual.result c.from-residual.ensures.1 in
+pub returns-in_err-run : goal.returns-in_err-run
+returns-in_err-run c =
+    let p = err_from_is_err_and c.from_residual.result c.from_residual.ensures.1 in
     let w = c.args.walker in
     let room = min most_streams (length c.args.memory.now) in
     rw (p.1, p.2)
-    (subst (λ st. Stops (noted c.args.journal.now) (networked st) w.at w.rest.now room (noted c.run.new.journal) c.in-err-run.field-0.0)
-    c.close-network.ensures.state (c.in-err-run.ensures.read room))
+    (subst (λ st. Stops (noted c.args.journal.now) (networked st) w.at w.rest.now room (noted c.run.new.journal) c.in_err-run.field-0.0)
+    c.close-network.ensures.state (c.in_err-run.ensures.read room))
 
-pub list-streams-requires : goal.list-streams-requires
-list-streams-requires c =
+pub list_streams-requires : goal.list_streams-requires
+list_streams-requires c =
     let net = c.run.new.network in
-    let ends = c.in-ok-run.ensures.read 0 in
+    let ends = c.in_ok-run.ensures.read 0 in
     record {
-      passing = c.in-ok-run.ensures.passing c.close-network.ensures.passing;
+      passing = c.in_ok-run.ensures.passing c.close-network.ensures.passing;
       few = omega (arith, ends.few, few net.records.rack (table net.records) net.kept);
     }
 
-pub list-lines-requires : goal.list-lines-requires
-list-lines-requires c =
+pub list_lines-requires : goal.list_lines-requires
+list_lines-requires c =
     let net = c.run.new.network in
-    let ends = c.in-ok-run.ensures.read 0 in
-    let added = c.list-streams.ensures in
+    let ends = c.in_ok-run.ensures.read 0 in
+    let added = c.list_streams.ensures in
     record {
-      passing = c.in-ok-run.ensures.passing c.close-network.ensures.passing;
+      passing = c.in_ok-run.ensures.passing c.close-network.ensures.passing;
       few =
           omega (
             arith,
@@ -50,7 +50,7 @@ returns c =
     let net = c.run.new.network in
     let room = min most_streams (length c.args.memory.now) in
     finishes (noted c.args.journal.now) (networked (state_of c.close-network.result.records)) (networked _) w.at w.rest.now room
-    (noted c.run.new.journal) (noted c.list-streams.new.journal) (noted c.list-lines.new.journal) (state_of net.records)
-    (ap networked c.close-network.ensures.state) (c.in-ok-run.ensures.read room)
+    (noted c.run.new.journal) (noted c.list_streams.new.journal) (noted c.list_lines.new.journal) (state_of net.records)
+    (ap networked c.close-network.ensures.state) (c.in_ok-run.ensures.read room)
     (record { kept = net.kept; differ = net.differ; sixteen = net.sixteen; fields = net.fields })
-    (c.in-ok-run.ensures.passing c.close-network.ensures.passing) c.list-streams.ensures c.list-lines.ensures
+    (c.in_ok-run.ensures.passing c.close-network.ensures.passing) c.list_streams.ensures c.list_lines.ensures

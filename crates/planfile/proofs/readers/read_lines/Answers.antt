@@ -10,64 +10,64 @@ use Rattle.planfile.proofs.Reached.{cut_stops, fitting_on, leads_on, met_length,
 use Rattle.planfile.proofs.Taking.{misread_took}
 use Rattle.planfile.proofs.readers.read_lines.Goals as goal
 
-pub returns-in-err-record : goal.returns-in-err-record
-returns-in-err-record c =
-    let p = err_from_is_err_and c.from-residual.result c.from-residual.ensures.1 in
+pub returns-in_err-record : goal.returns-in_err-record
+returns-in_err-record c =
+    let p = err_from_is_err_and c.from_residual.result c.from_residual.ensures.1 in
     let w = c.args.walker.now in
     let a = c.loop-record.ahead in
     rw (p.1, p.2)
     (cut_stops (noted c.args.journal.now) (drafted c.args.draft.now.rack) w.at w.rest.now
     (noted c.loop-record.journal) (drafted c.loop-record.draft.rack) a.at a.rest.now c.loop-record.invariant.0 c.loop-record.invariant.1
-    _ _ _ c.in-err-record.ensures)
+    _ _ _ c.in_err-record.ensures)
 
-pub returns-in-err-number : goal.returns-in-err-number
-returns-in-err-number c =
-    let p = err_from_is_err_and c.from-residual-in-err-number.result c.from-residual-in-err-number.ensures.1 in
+pub returns-in_err-number : goal.returns-in_err-number
+returns-in_err-number c =
+    let p = err_from_is_err_and c.from_residual-in_err-number.result c.from_residual-in_err-number.ensures.1 in
     let w = c.args.walker.now in
     let a = c.loop-record.ahead in
     let n = c.next.new.self in
     let place = c.in-Some.record.at in
     let front = c.in-Some.record.bytes.now in
-    let met : Met a.at a.rest.now place front n.at n.rest.now = MatchOption-at_some _ _ c.in-Some.record c.in-Some.is c.in-ok-record.ensures in
-    let fault = c.in-err-number.field-0.0 in
+    let met : Met a.at a.rest.now place front n.at n.rest.now = MatchOption-at_some _ _ c.in-Some.record c.in-Some.is c.in_ok-record.ensures in
+    let fault = c.in_err-number.field-0.0 in
     let stage = drafted c.loop-record.draft.rack in
     rw (p.1, p.2)
     (took_stops (noted c.args.journal.now) (drafted c.args.draft.now.rack) w.at w.rest.now
     (noted c.loop-record.journal) (drafted c.loop-record.draft.rack) a.at a.rest.now c.loop-record.invariant.0 c.loop-record.invariant.1 place front n.at n.rest.now met
     fault stage (noted c.loop-record.journal)
-    (misread_took stage place front fault stage (noted c.loop-record.journal) (said_fault (read_in Drafting place front) fault c.in-err-number.ensures)))
+    (misread_took stage place front fault stage (noted c.loop-record.journal) (said_fault (read_in Drafting place front) fault c.in_err-number.ensures)))
 
-pub returns-in-default-2 : goal.returns-in-default-2
-returns-in-default-2 c =
+pub returns-in_default-2 : goal.returns-in_default-2
+returns-in_default-2 c =
     let w = c.args.walker.now in
     let a = c.loop-record.ahead in
     let n = c.next.new.self in
     let place = c.in-Some.record.at in
     let front = c.in-Some.record.bytes.now in
-    let met : Met a.at a.rest.now place front n.at n.rest.now = MatchOption-at_some _ _ c.in-Some.record c.in-Some.is c.in-ok-record.ensures in
+    let met : Met a.at a.rest.now place front n.at n.rest.now = MatchOption-at_some _ _ c.in-Some.record c.in-Some.is c.in_ok-record.ensures in
     let o = c.loop-record.walker in
     handed_at_call (noted c.args.journal.now) (drafted c.args.draft.now.rack) w.at w.rest.now
     (noted c.loop-record.journal) c.loop-record.draft.rack a.at a.rest.now c.loop-record.invariant.0 c.loop-record.invariant.1
     o.at o.rest.now c.loop-record.invariant.2 c.loop-record.invariant.3 place front n.at n.rest.now met
-    (ap Ok (sym c.in-default-2.is) ∙ c.in-ok-number.ensures)
+    (ap Ok (sym c.in_default-2.is) ∙ c.in_ok-number.ensures)
 
-pub returns-in-err-note : goal.returns-in-err-note
-returns-in-err-note c =
-    let p = err_from_is_err_and c.from-residual-in-err-note.result c.from-residual-in-err-note.ensures.1 in
+pub returns-in_err-note : goal.returns-in_err-note
+returns-in_err-note c =
+    let p = err_from_is_err_and c.from_residual-in_err-note.result c.from_residual-in_err-note.ensures.1 in
     let w = c.args.walker.now in
     let a = c.loop-record.ahead in
     let n = c.next.new.self in
     let place = c.in-Some.record.at in
     let front = c.in-Some.record.bytes.now in
-    let met : Met a.at a.rest.now place front n.at n.rest.now = MatchOption-at_some _ _ c.in-Some.record c.in-Some.is c.in-ok-record.ensures in
-    let fault = c.in-err-note.field-0.0 in
-    let took : Took (drafted c.loop-record.draft.rack) (noted c.loop-record.journal) place front (Err fault) (drafted c.add-line.new.self.rack) (noted c.note.new.self) =
-    line_took c.loop-record.draft.rack c.add-line.new.self.rack (noted c.loop-record.journal) (noted c.note.new.self) place front c.in-Some-2.number c.in-Some-2.line c.add-line.result (Err fault)
-    (ap Ok (sym c.in-Some-2.is) ∙ c.in-ok-number.ensures) c.add-line.ensures.told c.add-line.ensures.rack c.in-err-note.ensures.told c.in-err-note.ensures.lines in
+    let met : Met a.at a.rest.now place front n.at n.rest.now = MatchOption-at_some _ _ c.in-Some.record c.in-Some.is c.in_ok-record.ensures in
+    let fault = c.in_err-note.field-0.0 in
+    let took : Took (drafted c.loop-record.draft.rack) (noted c.loop-record.journal) place front (Err fault) (drafted c.add_line.new.self.rack) (noted c.note.new.self) =
+    line_took c.loop-record.draft.rack c.add_line.new.self.rack (noted c.loop-record.journal) (noted c.note.new.self) place front c.in-Some-2.number c.in-Some-2.line c.add_line.result (Err fault)
+    (ap Ok (sym c.in-Some-2.is) ∙ c.in_ok-number.ensures) c.add_line.ensures.told c.add_line.ensures.rack c.in_err-note.ensures.told c.in_err-note.ensures.lines in
     rw (p.1, p.2)
     (took_stops (noted c.args.journal.now) (drafted c.args.draft.now.rack) w.at w.rest.now
     (noted c.loop-record.journal) (drafted c.loop-record.draft.rack) a.at a.rest.now c.loop-record.invariant.0 c.loop-record.invariant.1 place front n.at n.rest.now met
-    fault (drafted c.add-line.new.self.rack) (noted c.note.new.self) took)
+    fault (drafted c.add_line.new.self.rack) (noted c.note.new.self) took)
 
 pub loop-record-smaller : goal.loop-record-smaller
 loop-record-smaller c =
@@ -75,7 +75,7 @@ loop-record-smaller c =
     let n = c.next.new.self in
     let place = c.in-Some.record.at in
     let front = c.in-Some.record.bytes.now in
-    let met : Met a.at a.rest.now place front n.at n.rest.now = MatchOption-at_some _ _ c.in-Some.record c.in-Some.is c.in-ok-record.ensures in
+    let met : Met a.at a.rest.now place front n.at n.rest.now = MatchOption-at_some _ _ c.in-Some.record c.in-Some.is c.in_ok-record.ensures in
     omega (arith, (met_length a.at place a.rest.now front n.at n.rest.now met).0)
 
 pub loop-record-preserved : goal.loop-record-preserved
@@ -85,14 +85,14 @@ loop-record-preserved c =
     let n = c.next.new.self in
     let place = c.in-Some.record.at in
     let front = c.in-Some.record.bytes.now in
-    let met : Met a.at a.rest.now place front n.at n.rest.now = MatchOption-at_some _ _ c.in-Some.record c.in-Some.is c.in-ok-record.ensures in
+    let met : Met a.at a.rest.now place front n.at n.rest.now = MatchOption-at_some _ _ c.in-Some.record c.in-Some.is c.in_ok-record.ensures in
     let stage = drafted c.loop-record.draft.rack in
     let lines = noted c.loop-record.journal in
-    let next = drafted c.add-line.new.self.rack in
+    let next = drafted c.add_line.new.self.rack in
     let lines' = noted c.note.new.self in
     let took : Took stage lines place front (Ok tt) next lines' =
-    line_took c.loop-record.draft.rack c.add-line.new.self.rack (noted c.loop-record.journal) (noted c.note.new.self) place front c.in-Some-2.number c.in-Some-2.line c.add-line.result (Ok tt)
-    (ap Ok (sym c.in-Some-2.is) ∙ c.in-ok-number.ensures) c.add-line.ensures.told c.add-line.ensures.rack c.in-ok-note.ensures.told c.in-ok-note.ensures.lines in (
+    line_took c.loop-record.draft.rack c.add_line.new.self.rack (noted c.loop-record.journal) (noted c.note.new.self) place front c.in-Some-2.number c.in-Some-2.line c.add_line.result (Ok tt)
+    (ap Ok (sym c.in-Some-2.is) ∙ c.in_ok-number.ensures) c.add_line.ensures.told c.add_line.ensures.rack c.in_ok-note.ensures.told c.in_ok-note.ensures.lines in (
       leads_on (noted c.args.journal.now) (drafted c.args.draft.now.rack) w.at w.rest.now
           (noted c.loop-record.journal) (drafted c.loop-record.draft.rack) a.at a.rest.now c.loop-record.invariant.0 c.loop-record.invariant.1 place front n.at n.rest.now met next lines' took,
       fitting_on stage lines a.at place a.rest.now front n.at n.rest.now c.loop-record.invariant.1 met next lines' took,
@@ -106,7 +106,7 @@ returns c =
     let a = c.loop-record.ahead in
     let n = c.next.new.self in
     let o = c.loop-record.walker in
-    let at_end : Ended a.at a.rest.now n.at n.rest.now = MatchOption-at_none _ _ c.in-default.is c.in-ok-record.ensures in
+    let at_end : Ended a.at a.rest.now n.at n.rest.now = MatchOption-at_none _ _ c.in_default.is c.in_ok-record.ensures in
     handed_at_end (noted c.args.journal.now) (drafted c.args.draft.now.rack) w.at w.rest.now
     (noted c.loop-record.journal) c.loop-record.draft.rack a.at a.rest.now c.loop-record.invariant.0 c.loop-record.invariant.1
     o.at o.rest.now c.loop-record.invariant.2 c.loop-record.invariant.3 n.at n.rest.now at_end

@@ -17,11 +17,11 @@ earliest-early-requires g c =
     let s = c.in-Some.ensures in
     record { near = s.0; rising = c.requires.rising; queued = c.loop-w.invariant.reach _ s; after = c.loop-w.invariant.after }
 
-pub overflow-sub-w : goal.overflow-sub-w
-overflow-sub-w g c = c.earliest-early.ensures.first _ (c.loop-w.invariant.reach _ c.in-Some.ensures)
+pub overflow_sub-w : goal.overflow_sub-w
+overflow_sub-w g c = c.earliest-early.ensures.first _ (c.loop-w.invariant.reach _ c.in-Some.ensures)
 
-pub overflow-add-index : goal.overflow-add-index
-overflow-add-index g c =
+pub overflow_add-index : goal.overflow_add-index
+overflow_add-index g c =
     omega (arith, wait_near c.args.cell_time (g.B.Load.load c.args.higher.now) c.loop-w.index c.in-Some.w c.requires.cell.0 c.in-Some.ensures)
 
 pub loop-w-smaller : goal.loop-w-smaller
@@ -52,4 +52,4 @@ loop-w-preserved g c =
 
 pub returns : goal.returns
 returns g c =
-    walk_endless c.args.cell_time (g.A.Load.load c.args.own.now) (g.B.Load.load c.args.higher.now) c.requires.some c.requires.rising c.requires.ordered c.loop-w.index c.loop-w.worst c.loop-w.from c.loop-w.early c.loop-w.invariant c.in-default.ensures
+    walk_endless c.args.cell_time (g.A.Load.load c.args.own.now) (g.B.Load.load c.args.higher.now) c.requires.some c.requires.rising c.requires.ordered c.loop-w.index c.loop-w.worst c.loop-w.from c.loop-w.early c.loop-w.invariant c.in_default.ensures

@@ -5,8 +5,8 @@ use Rattle.ports.specs.Port.{ahead}
 use Rattle.ports.proofs.Leaps.{below_step, ahead_rises_near, ahead_is}
 use Rattle.ports.proofs.waits.wait.Goals as goal
 
-pub overflow-add-next : goal.overflow-add-next
-overflow-add-next g c =
+pub overflow_add-next : goal.overflow_add-next
+overflow_add-next g c =
     omega (
       arith,
       mul-le c.args.index c.args.cell_time 4294967295 1000 (omega arith) (omega arith),

@@ -8,4 +8,4 @@ pub returns : goal.returns
 returns c =
     c.placed.ensures
     ∙ ap (with_place c.args.at) (rw take_rest at c.values.ensures)
-    ∙ sym (said c.args.at c.args.bytes.now c.in-ok-shape.shape (sym c.read-shape.ensures ∙ c.in-ok-shape.was))
+    ∙ sym (said c.args.at c.args.bytes.now c.in_ok-shape.shape (sym c.read_shape.ensures ∙ c.in_ok-shape.was))

@@ -3,8 +3,8 @@ use Rattle.figures.specs.Racks.{cell_time_of, propagation_of}
 use Rattle.figures.proofs.RackLimits.{Timed, line_timed}
 use Rattle.figures.proofs.racks.Rack.sending.Goals as goal
 
-pub overflow-add-result : goal.overflow-add-result
-overflow-add-result c =
+pub overflow_add-result : goal.overflow_add-result
+overflow_add-result c =
     let timed : Timed (Some c.in-Some.line) = subst (λ o. Timed o) (sym c.in-Some.ensures) (line_timed c.args.self.now c.requires c.args.number) in
     omega (arith, timed.cell_high, timed.propagation_high)
 

@@ -14,8 +14,8 @@ lawful g =
     let m = g.met.K.Arrival in
     record { none = m.none; some = m.some; rises = m.rises; small = m.small }
 
-pub port-delay-requires : goal.port-delay-requires
-port-delay-requires g c =
+pub port_delay-requires : goal.port_delay-requires
+port_delay-requires g c =
     let table = c.args.self.now in
     let timed = line_timed table.rack.now (rack_is_kept table.rack.now table.streams.now table.kept) c.line.result in
     record {
@@ -32,7 +32,7 @@ pub returns : goal.returns
 returns g c =
     let table = c.args.self.now in
     record {
-      told = delay_told g.K.Arrival.alpha table.rack.now table.streams.now c.args.hop c.args.late.now c.args.place c.index-self-place.result c.cell_time.result c.above.result c.port-delay.result c.requires
-          (c.cell_time.ensures ∙ ap (cell_time table.rack.now) c.line.ensures) c.above.ensures c.port-delay.ensures;
-      near = delay_near _ _ _ _ c.port-delay.ensures;
+      told = delay_told g.K.Arrival.alpha table.rack.now table.streams.now c.args.hop c.args.late.now c.args.place c.index-self-place.result c.cell_time.result c.above.result c.port_delay.result c.requires
+          (c.cell_time.ensures ∙ ap (cell_time table.rack.now) c.line.ensures) c.above.ensures c.port_delay.ensures;
+      near = delay_near _ _ _ _ c.port_delay.ensures;
     }

@@ -4,23 +4,23 @@ use Rattle.figures.proofs.ByPriority.{delays_are, first_missing, second_missing}
 use Rattle.figures.proofs.TableFacts.{few, falls}
 use Rattle.figures.proofs.tables.Table.delays.Goals as goal
 
-pub returns-in-err-q1 : goal.returns-in-err-q1
-returns-in-err-q1 g c =
+pub returns-in_err-q1 : goal.returns-in_err-q1
+returns-in_err-q1 g c =
     let table = c.args.self.now in
-    let p = err_from_is_err_and c.from-residual.result c.from-residual.ensures.1 in
+    let p = err_from_is_err_and c.from_residual.result c.from_residual.ensures.1 in
     rw (p.1, p.2)
-    (first_missing g.K.Arrival.alpha table.rack.now table.streams.now (falls table.rack.now table.streams.now table.kept) c.in-err-q1.field-0.0 c.in-err-q1.ensures.told)
+    (first_missing g.K.Arrival.alpha table.rack.now table.streams.now (falls table.rack.now table.streams.now table.kept) c.in_err-q1.field-0.0 c.in_err-q1.ensures.told)
 
-pub returns-in-err-q2 : goal.returns-in-err-q2
-returns-in-err-q2 g c =
+pub returns-in_err-q2 : goal.returns-in_err-q2
+returns-in_err-q2 g c =
     let table = c.args.self.now in
-    let p = err_from_is_err_and c.from-residual-in-err-q2.result c.from-residual-in-err-q2.ensures.1 in
+    let p = err_from_is_err_and c.from_residual-in_err-q2.result c.from_residual-in_err-q2.ensures.1 in
     rw (p.1, p.2)
-    (second_missing g.K.Arrival.alpha table.rack.now table.streams.now (falls table.rack.now table.streams.now table.kept) c.in-ok-q1.q1 c.hub-lateness-late.result
-    (λ i h. c.hub-lateness-late.ensures i (omega (arith, h, few table.rack.now table.streams.now table.kept))) c.in-ok-q1.ensures.told c.in-err-q2.field-0.0 c.in-err-q2.ensures.told)
+    (second_missing g.K.Arrival.alpha table.rack.now table.streams.now (falls table.rack.now table.streams.now table.kept) c.in_ok-q1.q1 c.hub_lateness-late.result
+    (λ i h. c.hub_lateness-late.ensures i (omega (arith, h, few table.rack.now table.streams.now table.kept))) c.in_ok-q1.ensures.told c.in_err-q2.field-0.0 c.in_err-q2.ensures.told)
 
 pub returns : goal.returns
 returns g c =
     let table = c.args.self.now in
-    delays_are g.K.Arrival.alpha table.rack.now table.streams.now (falls table.rack.now table.streams.now table.kept) _ c.hub-lateness-late.result
-    (λ i h. c.hub-lateness-late.ensures i (omega (arith, h, few table.rack.now table.streams.now table.kept))) c.in-ok-q1.ensures.told c.in-ok-q2.ensures.told
+    delays_are g.K.Arrival.alpha table.rack.now table.streams.now (falls table.rack.now table.streams.now table.kept) _ c.hub_lateness-late.result
+    (λ i h. c.hub_lateness-late.ensures i (omega (arith, h, few table.rack.now table.streams.now table.kept))) c.in_ok-q1.ensures.told c.in_ok-q2.ensures.told

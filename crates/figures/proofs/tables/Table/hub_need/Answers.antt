@@ -17,8 +17,8 @@ lawful g =
     let m = g.met.K.Arrival in
     record { none = m.none; some = m.some; rises = m.rises; small = m.small }
 
-pub port-need-requires : goal.port-need-requires
-port-need-requires g c =
+pub port_need-requires : goal.port_need-requires
+port_need-requires g c =
     let table = c.args.self.now in
     let kept = rack_is_kept table.rack.now table.streams.now table.kept in
     let timed = line_timed table.rack.now kept c.args.number in
@@ -36,7 +36,7 @@ returns g c q1 listed =
     let α = g.K.Arrival.alpha in
     let rack = table.rack.now in
     let streams = table.streams.now in
-    let late = hub_late α rack streams (falls rack streams table.kept) c.args.delays.now.q1 c.hub-lateness-late.result
-    (λ i h. c.hub-lateness-late.ensures i (omega (arith, h, few rack streams table.kept))) q1 listed in
-    subst (λ n. PortNeed n (hub_load α rack streams q1 c.args.number) c.port-need.result) c.cell_time.ensures
-    (need_same c.cell_time.result c.port-need.result (hub_sum_same α rack streams q1 c.hub-lateness-late.result late c.args.number) c.port-need.ensures)
+    let late = hub_late α rack streams (falls rack streams table.kept) c.args.delays.now.q1 c.hub_lateness-late.result
+    (λ i h. c.hub_lateness-late.ensures i (omega (arith, h, few rack streams table.kept))) q1 listed in
+    subst (λ n. PortNeed n (hub_load α rack streams q1 c.args.number) c.port_need.result) c.cell_time.ensures
+    (need_same c.cell_time.result c.port_need.result (hub_sum_same α rack streams q1 c.hub_lateness-late.result late c.args.number) c.port_need.ensures)

@@ -5,16 +5,16 @@ use Rattle.std.proofs.lemmas.Bool.{cases_lt}
 use Rattle.figures.specs.Told.{NeedToldFor}
 use Rattle.figures.proofs.tables.Table.needs.Goals as goal
 
-pub returns-in-err-needs : goal.returns-in-err-needs
-returns-in-err-needs g c =
-    let p = err_from_is_err_and c.from-residual.result c.from-residual.ensures.1 in
+pub returns-in_err-needs : goal.returns-in_err-needs
+returns-in_err-needs g c =
+    let p = err_from_is_err_and c.from_residual.result c.from_residual.ensures.1 in
     rw (p.1, p.2)
     (λ q1 listed. record {
       line = c.loop-number.number;
       low = c.loop-number.auto.number;
       high = omega (arith, c.loop-number-test.true);
       earlier = λ l low less. (get_or c.loop-number.needs (l - 1) None, c.loop-number.invariant.1 l low less q1 listed);
-      never = c.in-err-needs.ensures q1 listed;
+      never = c.in_err-needs.ensures q1 listed;
     })
 
 pub loop-number-preserved : goal.loop-number-preserved
@@ -22,7 +22,7 @@ loop-number-preserved g c =
     let table = c.args.self.now in
     let n = c.loop-number.number in
     let needs = c.loop-number.needs in
-    let r = c.in-ok-needs.field-0 in
+    let r = c.in_ok-needs.field-0 in
     let Told = NeedToldFor g.K.Arrival.alpha table.rack.now table.streams.now c.args.delays.now.q1 in (
       length-set needs (n - 1) r ∙ c.loop-number.invariant.0,
       λ m low less.
@@ -34,7 +34,7 @@ loop-number-preserved g c =
                 let here : n ≡ m = omega arith in
                 let same : get_or (set needs (n - 1) r) (n - 1) None ≡ r = get_or-set_same needs (n - 1) r None (omega (arith, c.loop-number.invariant.0, c.loop-number-test.true, c.loop-number.auto.number)) in
                 subst (λ k. Told k (Ok (get_or (set needs (n - 1) r) (k - 1) None))) here
-                (subst (λ o. Told n (Ok o)) (sym same) c.in-ok-needs.ensures)
+                (subst (λ o. Told n (Ok o)) (sym same) c.in_ok-needs.ensures)
           ],
     )
 

@@ -4,23 +4,23 @@ use Rattle.figures.proofs.TableFacts.{rack_is_kept}
 use Rattle.figures.proofs.Totals.{total_told}
 use Rattle.figures.proofs.tables.Table.of_stream.Goals as goal
 
-pub overflow-add-result : goal.overflow-add-result
-overflow-add-result g c =
+pub overflow_add-result : goal.overflow_add-result
+overflow_add-result g c =
     let table = c.args.self.now in
     let high = hub_high table.rack.now (rack_is_kept table.rack.now table.streams.now table.kept) in
     omega (arith, c.args.delays.now.near c.args.place, c.sending.ensures.small)
 
-pub overflow-add-result-2 : goal.overflow-add-result-2
-overflow-add-result-2 g c =
+pub overflow_add-result-2 : goal.overflow_add-result-2
+overflow_add-result-2 g c =
     let table = c.args.self.now in
     let high = hub_high table.rack.now (rack_is_kept table.rack.now table.streams.now table.kept) in
     omega (arith, c.args.delays.now.near c.args.place, c.args.delays.now.near_too c.args.place, c.sending.ensures.small, c.sending-2.ensures.small)
 
-pub overflow-add-first : goal.overflow-add-first
-overflow-add-first g c = omega (arith, c.args.delays.now.near c.args.place, c.sending.ensures.small)
+pub overflow_add-first : goal.overflow_add-first
+overflow_add-first g c = omega (arith, c.args.delays.now.near c.args.place, c.sending.ensures.small)
 
-pub overflow-add-second : goal.overflow-add-second
-overflow-add-second g c = omega (arith, c.args.delays.now.near_too c.args.place, c.sending-2.ensures.small)
+pub overflow_add-second : goal.overflow_add-second
+overflow_add-second g c = omega (arith, c.args.delays.now.near_too c.args.place, c.sending-2.ensures.small)
 
 pub returns : goal.returns
 returns g c =

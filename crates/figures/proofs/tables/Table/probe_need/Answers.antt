@@ -19,8 +19,8 @@ lawful g =
     let m = g.met.K.Arrival in
     record { none = m.none; some = m.some; rises = m.rises; small = m.small }
 
-pub port-need-requires : goal.port-need-requires
-port-need-requires g c =
+pub port_need-requires : goal.port_need-requires
+port_need-requires g c =
     let table = c.args.self.now in
     let timed = line_timed table.rack.now (rack_is_kept table.rack.now table.streams.now table.kept) c.args.number in
     record {
@@ -37,6 +37,6 @@ returns g c =
     let α = g.K.Arrival.alpha in
     let rack = table.rack.now in
     let streams = table.streams.now in
-    subst (λ n. PortNeed n (probe_load α rack streams c.args.number) c.port-need.result) c.cell_time.ensures
-    (need_same c.cell_time.result c.port-need.result
-    (group_same α rack Probe (λ _. 0) (replicate 64 None) streams (probe_late α rack streams (falls rack streams table.kept) (λ _. 0)) (From c.args.number)) c.port-need.ensures)
+    subst (λ n. PortNeed n (probe_load α rack streams c.args.number) c.port_need.result) c.cell_time.ensures
+    (need_same c.cell_time.result c.port_need.result
+    (group_same α rack Probe (λ _. 0) (replicate 64 None) streams (probe_late α rack streams (falls rack streams table.kept) (λ _. 0)) (From c.args.number)) c.port_need.ensures)

@@ -3,9 +3,9 @@ use Rattle.std.proofs.lemmas.List.{length-set}
 use Rattle.network.proofs.NewLines.{line_set_kept}
 use Rattle.network.proofs.drafts.Draft.add_line.Goals as goal
 
-pub invariant-of-self : goal.invariant-of-self
-invariant-of-self c =
+pub invariant_of-self : goal.invariant_of-self
+invariant_of-self c =
     let draft = c.args.self.now in (
-      line_set_kept draft.rack c.args.number c.args.line draft.kept (sym c.if-not-has-fields-within.ensures),
+      line_set_kept draft.rack c.args.number c.args.line draft.kept (sym c.if-not-has_fields_within.ensures),
       (length-set draft.rack.lines (c.args.number - 1) (Some c.args.line) ∙ draft.sixteen, tt),
     )

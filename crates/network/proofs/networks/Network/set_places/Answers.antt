@@ -8,10 +8,10 @@ pub returns : goal.returns
 returns g c =
     let m = g.met.K.Arrival in
     let net = c.args.self.now.records in
-    let new = c.set-places.new.self in
+    let new = c.set_places.new.self in
     record {
-      told = c.set-places.ensures.told;
-      left = c.set-places.ensures.left;
-      passing = passing_step g.K.Arrival.alpha (state net.rack net.memory.now net.len) (SetPlaces c.args.number c.args.places) _ (state new.rack new.memory.now new.len) (c.set-places.result, refl, c.set-places.ensures.told)
+      told = c.set_places.ensures.told;
+      left = c.set_places.ensures.left;
+      passing = passing_step g.K.Arrival.alpha (state net.rack net.memory.now net.len) (SetPlaces c.args.number c.args.places) _ (state new.rack new.memory.now new.len) (c.set_places.result, refl, c.set_places.ensures.told)
           (record { none = m.none; some = m.some; rises = m.rises; small = m.small });
     }

@@ -6,38 +6,38 @@ use Rattle.records.proofs.Asked.{line_undelayed, line_unneeded, line_asked, line
 use Rattle.records.proofs.Requests.{state}
 use Rattle.records.proofs.records.Records.line_figures.Goals as goal
 
-pub returns-in-err-delays : goal.returns-in-err-delays
-returns-in-err-delays g c =
+pub returns-in_err-delays : goal.returns-in_err-delays
+returns-in_err-delays g c =
     let net = c.args.self.now in
     let st = state net.rack net.memory.now net.len in
-    let same = c.table-of-table.ensures in
-    let known : unknown_line st c.args.number ≡ None = sym c.line-refusal.ensures ∙ c.in-default.is in
-    let p = err_from_is_err_and c.from-residual.result c.from-residual.ensures.1 in
-    rw (p.1, p.2) (line_undelayed g.K.Arrival.alpha st _ _ same.0 same.1 c.args.number known c.in-err-delays.field-0.0 c.in-err-delays.ensures)
+    let same = c.table_of-table.ensures in
+    let known : unknown_line st c.args.number ≡ None = sym c.line_refusal.ensures ∙ c.in_default.is in
+    let p = err_from_is_err_and c.from_residual.result c.from_residual.ensures.1 in
+    rw (p.1, p.2) (line_undelayed g.K.Arrival.alpha st _ _ same.0 same.1 c.args.number known c.in_err-delays.field-0.0 c.in_err-delays.ensures)
 
-pub returns-in-err-need : goal.returns-in-err-need
-returns-in-err-need g c =
+pub returns-in_err-need : goal.returns-in_err-need
+returns-in_err-need g c =
     let net = c.args.self.now in
     let st = state net.rack net.memory.now net.len in
-    let same = c.table-of-table.ensures in
-    let known : unknown_line st c.args.number ≡ None = sym c.line-refusal.ensures ∙ c.in-default.is in
-    let p = err_from_is_err_and c.from-residual-in-err-need.result c.from-residual-in-err-need.ensures.1 in
-    rw (p.1, p.2) (line_unneeded g.K.Arrival.alpha st _ _ same.0 same.1 c.args.number known c.in-ok-delays.delays c.in-ok-delays.ensures c.in-err-need.field-0.0 c.in-err-need.ensures)
+    let same = c.table_of-table.ensures in
+    let known : unknown_line st c.args.number ≡ None = sym c.line_refusal.ensures ∙ c.in_default.is in
+    let p = err_from_is_err_and c.from_residual-in_err-need.result c.from_residual-in_err-need.ensures.1 in
+    rw (p.1, p.2) (line_unneeded g.K.Arrival.alpha st _ _ same.0 same.1 c.args.number known c.in_ok-delays.delays c.in_ok-delays.ensures c.in_err-need.field-0.0 c.in_err-need.ensures)
 
-pub unreachable-requires-in-default-2 : goal.unreachable-requires-in-default-2
-unreachable-requires-in-default-2 g c =
+pub unreachable-requires-in_default-2 : goal.unreachable-requires-in_default-2
+unreachable-requires-in_default-2 g c =
     let net = c.args.self.now in
     let st = state net.rack net.memory.now net.len in
-    let same = c.table-of-table.ensures in
-    let known : unknown_line st c.args.number ≡ None = sym c.line-refusal.ensures ∙ c.in-default.is in
-    line_is_there g.K.Arrival.alpha st _ _ same.0 same.1 c.args.number known c.in-ok-delays.delays c.in-ok-delays.ensures c.in-Some-line.line c.in-Some-line.ensures
-    (subst (λ o. NeedToldFor g.K.Arrival.alpha c.table-of-table.result.rack.now c.table-of-table.result.streams.now c.in-ok-delays.delays.q1 c.args.number (Ok o)) c.in-default-2.is c.in-ok-need.ensures)
+    let same = c.table_of-table.ensures in
+    let known : unknown_line st c.args.number ≡ None = sym c.line_refusal.ensures ∙ c.in_default.is in
+    line_is_there g.K.Arrival.alpha st _ _ same.0 same.1 c.args.number known c.in_ok-delays.delays c.in_ok-delays.ensures c.in-Some-line.line c.in-Some-line.ensures
+    (subst (λ o. NeedToldFor g.K.Arrival.alpha c.table_of-table.result.rack.now c.table_of-table.result.streams.now c.in_ok-delays.delays.q1 c.args.number (Ok o)) c.in_default-2.is c.in_ok-need.ensures)
 
 pub returns : goal.returns
 returns g c =
     let net = c.args.self.now in
     let st = state net.rack net.memory.now net.len in
-    let same = c.table-of-table.ensures in
-    let known : unknown_line st c.args.number ≡ None = sym c.line-refusal.ensures ∙ c.in-default.is in
-    line_asked g.K.Arrival.alpha st _ _ same.0 same.1 c.args.number known c.in-ok-delays.delays c.in-ok-delays.ensures c.in-Some-line.line c.in-Some-line.ensures c.in-Some-2.need
-    (subst (λ o. NeedToldFor g.K.Arrival.alpha c.table-of-table.result.rack.now c.table-of-table.result.streams.now c.in-ok-delays.delays.q1 c.args.number (Ok o)) c.in-Some-2.is c.in-ok-need.ensures)
+    let same = c.table_of-table.ensures in
+    let known : unknown_line st c.args.number ≡ None = sym c.line_refusal.ensures ∙ c.in_default.is in
+    line_asked g.K.Arrival.alpha st _ _ same.0 same.1 c.args.number known c.in_ok-delays.delays c.in_ok-delays.ensures c.in-Some-line.line c.in-Some-line.ensures c.in-Some-2.need
+    (subst (λ o. NeedToldFor g.K.Arrival.alpha c.table_of-table.result.rack.now c.table_of-table.result.streams.now c.in_ok-delays.delays.q1 c.args.number (Ok o)) c.in-Some-2.is c.in_ok-need.ensures)

@@ -10,11 +10,11 @@ use Rattle.records.proofs.Differ.{differ_distinct}
 use Rattle.records.proofs.Requests.{state, room_left, place_low, new_sound, new_length, new_state}
 use Rattle.records.proofs.records.Records.request.Goals as goal
 
-pub try-file-requires : goal.try-file-requires
-try-file-requires g c =
+pub try_file-requires : goal.try_file-requires
+try_file-requires g c =
     let net = c.args.self.now in
     let m = net.memory.now in
-    let free : unfiled (state net.rack m net.len) c.args.stream ≡ None = sym c.refusal.ensures ∙ c.in-default.is in
+    let free : unfiled (state net.rack m net.len) c.args.stream ≡ None = sym c.refusal.ensures ∙ c.in_default.is in
     let room = room_left net.rack m net.len c.args.stream c.requires.inside c.requires.sound free in
     let low = place_low net.rack m net.len c.args.stream c.requires.inside c.requires.sound free in
     let sound = new_sound net.rack m net.len c.args.stream c.requires.inside c.requires.sound free in
@@ -32,12 +32,12 @@ returns g c =
     let m = net.memory.now in
     let len = net.len in
     let s = c.args.stream in
-    let n = c.try-file.new.memory in
-    let free : unfiled (state rack m len) s ≡ None = sym c.refusal.ensures ∙ c.in-default.is in
+    let n = c.try_file.new.memory in
+    let free : unfiled (state rack m len) s ≡ None = sym c.refusal.ensures ∙ c.in_default.is in
     let is : n ≡ filed s (take len m) ++ drop (len + 1) m =
-    subst (λ p. n ≡ insert (take len m) p s ++ drop (len + 1) m) c.place-at.ensures c.in-ok-try-file.ensures.left in
+    subst (λ p. n ≡ insert (take len m) p s ++ drop (len + 1) m) c.place-at.ensures c.in_ok-try_file.ensures.left in
     let told : CheckTold g.K.Arrival.alpha rack (filed s (take len m)) (Ok tt) =
-    subst (λ p. CheckTold g.K.Arrival.alpha rack (insert (take len m) p s) (Ok tt)) c.place-at.ensures c.in-ok-try-file.ensures.told in
+    subst (λ p. CheckTold g.K.Arrival.alpha rack (insert (take len m) p s) (Ok tt)) c.place-at.ensures c.in_ok-try_file.ensures.told in
     let new = new_state rack m len s c.requires.inside c.requires.sound free n is in
     let long = new_length rack m len s c.requires.inside c.requires.sound free n is in
     record {

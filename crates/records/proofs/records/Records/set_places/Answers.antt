@@ -26,11 +26,11 @@ placed_free st l p known low high =
 pub check-verdict-requires : goal.check-verdict-requires
 check-verdict-requires g c =
     let net = c.args.self.now in
-    let new = c.write-places.new.self in
-    let e = c.write-places.ensures in
+    let new = c.write_places.new.self in
+    let e = c.write_places.ensures in
     let same = written (places_set net.rack c.args.number c.args.places) new.rack net.memory.now new.memory.now net.len new.len e.rack e.memory.0 e.memory.1 in
     let free : unplaced (state net.rack net.memory.now net.len) c.args.number c.args.places ≡ None =
-    placed_free (state net.rack net.memory.now net.len) c.args.number c.args.places (sym c.line-refusal.ensures ∙ c.in-default.is) (omega arith) (omega arith) in
+    placed_free (state net.rack net.memory.now net.len) c.args.number c.args.places (sym c.line_refusal.ensures ∙ c.in_default.is) (omega arith) (omega arith) in
     record {
       inside = omega (arith, c.requires.inside, ap length e.memory.0, e.memory.1);
       sound = subst (λ st. Sound st) (sym same) (placed_sound (state net.rack net.memory.now net.len) c.requires.sound c.args.number c.args.places free);

@@ -4,16 +4,16 @@ use Rattle.records.proofs.Asked.{stream_asked, stream_unfigured}
 use Rattle.records.proofs.Requests.{state}
 use Rattle.records.proofs.records.Records.stream_figures.Goals as goal
 
-pub returns-in-err-delays : goal.returns-in-err-delays
-returns-in-err-delays g c =
+pub returns-in_err-delays : goal.returns-in_err-delays
+returns-in_err-delays g c =
     let net = c.args.self.now in
-    let same = c.table-of-table.ensures in
-    let p = err_from_is_err_and c.from-residual-in-err-delays.result c.from-residual-in-err-delays.ensures.1 in
+    let same = c.table_of-table.ensures in
+    let p = err_from_is_err_and c.from_residual-in_err-delays.result c.from_residual-in_err-delays.ensures.1 in
     rw (p.1, p.2)
-    (stream_unfigured g.K.Arrival.alpha (state net.rack net.memory.now net.len) _ _ same.0 same.1 c.args.number c.in-ok-place.ensures.0 c.in-err-delays.field-0.0 c.in-err-delays.ensures)
+    (stream_unfigured g.K.Arrival.alpha (state net.rack net.memory.now net.len) _ _ same.0 same.1 c.args.number c.in_ok-place.ensures.0 c.in_err-delays.field-0.0 c.in_err-delays.ensures)
 
 pub returns : goal.returns
 returns g c =
     let net = c.args.self.now in
-    let same = c.table-of-table.ensures in
-    stream_asked g.K.Arrival.alpha (state net.rack net.memory.now net.len) _ _ same.0 same.1 c.args.number c.in-ok-place.ensures.0 c.in-ok-delays.delays c.in-ok-delays.ensures c.in-ok-place.place c.in-ok-place.ensures.1 c.in-Some.figures c.in-Some.ensures
+    let same = c.table_of-table.ensures in
+    stream_asked g.K.Arrival.alpha (state net.rack net.memory.now net.len) _ _ same.0 same.1 c.args.number c.in_ok-place.ensures.0 c.in_ok-delays.delays c.in_ok-delays.ensures c.in_ok-place.place c.in_ok-place.ensures.1 c.in-Some.figures c.in-Some.ensures

@@ -15,12 +15,12 @@ returns g c =
     let rack = net.rack in
     let m = net.memory.now in
     let len = net.len in
-    let n = c.remove-at.new.memory in
-    let found = c.in-ok-at.ensures in
+    let n = c.remove_at.new.memory in
+    let found = c.in_ok-at.ensures in
     let known : unknown_stream (state rack m len) c.args.number ≡ None = found.0 in
     let there = place_there rack m len c.args.number c.requires.inside c.requires.sound known in
     let is : (d : Stream g.row.K.Denot) → n ≡ remove (take len m) (number_at c.args.number (take len m)) ++ get_or m (number_at c.args.number (take len m)) d ∷ drop len m =
-    λ d. subst (λ a. n ≡ remove (take len m) a ++ get_or m a d ∷ drop len m) found.1 (c.remove-at.ensures d) in
+    λ d. subst (λ a. n ≡ remove (take len m) a ++ get_or m a d ∷ drop len m) found.1 (c.remove_at.ensures d) in
     let gone : Out m n len (number_at c.args.number (take len m)) = out m n len _ there c.requires.inside is in
     let new = left_state rack m len c.args.number c.requires.inside c.requires.sound known n gone in
     record {

@@ -8,6 +8,6 @@ returns-else-n-rest c =
     record {
       step =
           piece_at c.args.self.now.at c.from-n.result c.args.self.now.rest.now _ _ (search rules) (search rules) (search rules)
-          (rw take_rest at c.split-at.ensures.front) (rw take_rest at c.split-at.ensures.back);
+          (rw take_rest at c.split_at.ensures.front) (rw take_rest at c.split_at.ensures.back);
       goes = search rules;
     }
