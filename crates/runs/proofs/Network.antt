@@ -58,7 +58,7 @@ module _ {K : Type 0} (α : K → ℕ → ℕ) (rack : Rack) (table : List (Stre
   hub_order l k a =
       let c = ltb-true _ _ (and_parts (eqb (r.cell k).stream.outbound l) (ltb (r.cell k).moved r.end) a.1).1
       in
-      ⊎_elim (λ (e : (r.cell k).left < r.end). R.left_After k a.0 e)
+      ⊎_elim (λ (e : (r.cell k).left < r.end). R.left_after k a.0 e)
       (λ (e : r.end ≤ (r.cell k).left). omega arith)
       (cases_lt (r.cell k).left r.end)
 

@@ -38,7 +38,7 @@ promise K α rack table all kept distinct q1 q2 need D N r R =
         ⊎_elim
         (λ (f : (r.cell k).moved < r.end).
         ⊎_elim
-        (λ (g : (r.cell k).left < r.end). omega (arith, h f (r.cell k).left g (R.left_After k l g) (omega arith)))
+        (λ (g : (r.cell k).left < r.end). omega (arith, h f (r.cell k).left g (R.left_after k l g) (omega arith)))
         (λ (g : r.end ≤ (r.cell k).left). omega (arith, h f (r.end - 1) (omega arith) (omega arith) (omega arith)))
         (cases_lt (r.cell k).left r.end))
         (λ (f : r.end ≤ (r.cell k).moved). omega arith)

@@ -17,8 +17,8 @@ returns-else-streams-at g c =
     c.index-streams-at.result c.loop-at-test.true (le-ltb _ _ c.if-streams-at.false)
     in omega (arith, s)
 
-pub returns-after_loop-at : goal.returns-after_loop-at
-returns-after_loop-at g c =
+pub returns-after-loop-at : goal.returns-after-loop-at
+returns-after-loop-at g c =
     let s =
     prefix_len-drop_all (λ x. ltb c.args.priority x.priority) c.args.streams.now c.loop-at.at c.loop-at-test.false
     in omega (arith, s)
