@@ -30,7 +30,7 @@ fn main(rt: HostRuntime) -> io::Result<()> {
     let mut memory = [NO_STREAM; MOST_STREAMS];
     let mut out = vec![in rt.alloc(); 0u8; LONGEST_LISTING]?;
     let Ok(n) = list_plan(&bytes, &mut memory, &mut out) else {
-        unreachable()
+        unreachable!()
     };
     rt.stdout().write_all(&out[0..n])
 }

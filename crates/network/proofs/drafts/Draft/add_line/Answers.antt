@@ -5,7 +5,7 @@ use Rattle.network.proofs.drafts.Draft.add_line.Goals as goal
 
 pub invariant_of-self : goal.invariant_of-self
 invariant_of-self c =
-    let draft = c.args.self.now in (
-      line_set_kept draft.rack c.args.number c.args.line draft.kept (sym c.if-not-has_fields_within.ensures),
-      (length-set draft.rack.lines (c.args.number - 1) (Some c.args.line) ∙ draft.sixteen, tt),
-    )
+    let draft = c.args.self.now in record {
+      kept = line_set_kept draft.rack c.args.number c.args.line draft.kept (sym c.if-not-has_fields_within.ensures);
+      sixteen = length-set draft.rack.lines (c.args.number - 1) (Some c.args.line) ∙ draft.sixteen;
+    }
