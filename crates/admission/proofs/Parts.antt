@@ -1,5 +1,5 @@
 -- The parts of the check, as the loops find them.
-use Rattle.std.proofs.Common.{◌≡◌, ℕ, ◌+◌, ◌<◌, ◌≤◌, ◌⊎◌, List, [], ◌∷◌, ◌++◌, length, get_or, take, drop, Some, None, Ok, Err, Option, sym, refl, ap, ◌∙◌, subst, inl, inr, arith}
+use Rattle.std.proofs.Common.{◌≡◌, ℕ, ◌+◌, ◌<◌, ◌≤◌, List, ◌++◌, length, get_or, take, drop, Some, None, Ok, Err, Option, sym, refl, ap, ◌∙◌, subst, inl, inr, arith}
 use Rattle.std.proofs.lemmas.List.{take-append-drop, get_or_default}
 use Rattle.std.proofs.lemmas.Bool.{cases_lt}
 use Rattle.std.specs.List.{HoldsAt}
@@ -12,9 +12,8 @@ use Rattle.figures.specs.declared.racks.Rack.{Rack}
 use Rattle.figures.specs.declared.streams.Stream.{Stream}
 use Rattle.figures.specs.Racks.{line_at}
 use Rattle.figures.specs.Tables.{◌∈◌, total}
-use Rattle.figures.specs.Told.{Listed, StreamTold, NeedOf, NeedTold, NeedToldFor}
+use Rattle.figures.specs.Told.{Listed, StreamTold, NeedOf, NeedTold}
 use Rattle.figures.proofs.Items.{drop_item, in_front, in_place}
-use Rattle.admission.specs.declared.faults.TableFault.{TableFault}
 use Rattle.admission.specs.declared.faults.TableFault.TheVariants.{Figure, Cramped}
 use Rattle.admission.specs.Checks.{FirstOf, InTime, TooLate, Fits, Fails}
 

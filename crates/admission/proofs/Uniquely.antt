@@ -1,5 +1,5 @@
 -- The check of a table has one answer.
-use Rattle.std.proofs.Common.{◌≡◌, ℕ, ◌<◌, ◌≤◌, true, false, ◌⊎◌, List, [], ◌∷◌, ◌++◌, Some, None, Ok, Err, Option, Result, sym, refl, ap, ◌∙◌, subst, inl, inr, arith}
+use Rattle.std.proofs.Common.{◌≡◌, ℕ, ◌<◌, true, false, ◌⊎◌, List, [], ◌∷◌, ◌++◌, Some, None, Ok, Err, Option, Result, sym, refl, ap, ◌∙◌, subst, inl, inr, arith}
 use Rattle.std.proofs.lemmas.Bool.{cases_lt}
 use Rattle.figures.specs.declared.faults.FigureFault.TheVariants.{NoDelay, NoNeed}
 use Rattle.figures.specs.declared.racks.Line.{Line}
@@ -8,13 +8,13 @@ use Rattle.figures.specs.declared.racks.Side.{Side}
 use Rattle.figures.specs.declared.racks.Side.TheVariants.{Inbound, Outbound}
 use Rattle.figures.specs.declared.streams.Stream.{Stream}
 use Rattle.figures.specs.Racks.{line_at, cell_time, is_inbound, is_outbound, places_of}
-use Rattle.figures.specs.Tables.{◌∈◌, total, probe_bound, probe_higher, hub_bound, hub_higher, probe_load, hub_load, FirstDelay, SecondDelay, ProbeNeed, HubNeed, Delays, Passing}
-use Rattle.figures.specs.Told.{DelaysTold, FirstWithout, NeedOn, NeedOf}
+use Rattle.figures.specs.Tables.{◌∈◌, total, probe_bound, probe_higher, hub_bound, hub_higher, probe_load, hub_load, FirstDelay, SecondDelay, Delays, Passing}
+use Rattle.figures.specs.Told.{DelaysTold, NeedOn, NeedOf}
 use Rattle.figures.proofs.Transport.{delay_same, need_same}
 use Rattle.figures.proofs.Uniqueness.{port_delay_same, port_need_same, hub_bound_same, hub_higher_same, hub_load_same, tables_unique}
 use Rattle.admission.specs.declared.faults.TableFault.{TableFault}
 use Rattle.admission.specs.declared.faults.TableFault.TheVariants.{OutsideLimits, Overfull, LineTaken, NoLine, StreamTaken, PriorityTaken, TableFull, NoStream, Figure, Late, Cramped}
-use Rattle.admission.specs.Checks.{FirstOf, InTime, TooLate, FirstLate, Fits, Fails, FirstLine, FirstUnfit, CheckTold}
+use Rattle.admission.specs.Checks.{InTime, FirstLate, Fits, Fails, FirstUnfit, CheckTold}
 use Rattle.admission.specs.Unique.{OneVerdict}
 
 some_none : {X Y : Type 0} {x : X} → Some x ≡ None → Y

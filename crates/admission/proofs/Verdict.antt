@@ -1,5 +1,5 @@
 -- The parts of the check together.
-use Rattle.std.proofs.Common.{◌≡◌, ℕ, ◌-◌, ◌<◌, ◌≤◌, Bool, true, false, cond, eqb, ◌⊎◌, List, length, get_or, Some, None, Ok, Err, Option, Result, sym, refl, ap, ◌∙◌, subst, inl, inr, arith}
+use Rattle.std.proofs.Common.{◌≡◌, ℕ, ◌-◌, ◌≤◌, true, false, eqb, List, length, Some, None, Ok, Err, Option, Result, sym, refl, ◌∙◌, subst, inl, inr, arith}
 use Rattle.std.proofs.lemmas.List.{get_or_past}
 use Rattle.std.proofs.lemmas.Bool.{cases_lt, cond-true, cond-false, eq-eqb, ne_eqb}
 use Rattle.figures.specs.declared.delays.Delays.{Delays as Listing}
@@ -10,11 +10,11 @@ use Rattle.figures.specs.declared.racks.Side.{Side}
 use Rattle.figures.specs.declared.racks.Side.TheVariants.{Inbound, Outbound}
 use Rattle.figures.specs.declared.streams.Stream.{Stream}
 use Rattle.figures.specs.Racks.{line_at, is_inbound, is_outbound}
-use Rattle.figures.specs.Tables.{◌∈◌, Distinct, table_kept, ProbeNeed, HubNeed, Passing}
-use Rattle.figures.specs.Told.{DelaysAre, NeedOn, NeedOf}
+use Rattle.figures.specs.Tables.{◌∈◌, Distinct, table_kept, ProbeNeed, HubNeed}
+use Rattle.figures.specs.Told.{DelaysAre, NeedOn}
 use Rattle.admission.specs.declared.faults.TableFault.{TableFault}
 use Rattle.admission.specs.declared.faults.TableFault.TheVariants.{OutsideLimits, Overfull, LineTaken, NoLine, StreamTaken, PriorityTaken, TableFull, NoStream, Figure, Late, Cramped}
-use Rattle.admission.specs.Checks.{InTime, Fits, Fails, FirstLine, LinesTold, CheckTold}
+use Rattle.admission.specs.Checks.{InTime, Fits, Fails, LinesTold, CheckTold}
 
 false_true : {X : Type 0} → false ≡ true → X
 false_true e = let z : ◌≡◌ {A = ℕ} 0 1 = cc in absurd (omega arith)

@@ -1,7 +1,6 @@
 -- What the check of a table answers: the first check that fails, in the order of the checks, or that the table passes.
-use Rattle.std.specs.Prelude.{◌≡◌, ℕ, ◌<◌, ◌≤◌, ◌⊎◌, List, ◌∷◌, ◌++◌, Some, None, Ok, Err, Option, Result}
+use Rattle.std.specs.Prelude.{◌≡◌, ℕ, ◌<◌, ◌≤◌, List, ◌∷◌, ◌++◌, Some, None, Ok, Err, Option, Result}
 use Rattle.figures.specs.declared.delays.Delays.{Delays as Listing}
-use Rattle.figures.specs.declared.faults.FigureFault.{FigureFault}
 use Rattle.figures.specs.declared.faults.FigureFault.TheVariants.{NoDelay, NoNeed}
 use Rattle.figures.specs.declared.racks.Line.{Line}
 use Rattle.figures.specs.declared.racks.Rack.{Rack}

@@ -6,7 +6,7 @@ use Rattle.std.proofs.lemmas.Bool.{cases_lt, cond_both}
 use Rattle.std.proofs.lemmas.Bool.Decides.{nat_tests}
 use Rattle.arrivals.specs.declared.messages.Message.{Message}
 use Rattle.arrivals.specs.Limits.{longest, most}
-use Rattle.arrivals.specs.Messages.{Kept, rounded_up, cells_in, meaning, message_alpha}
+use Rattle.arrivals.specs.Messages.{Kept, cells_in, meaning, message_alpha}
 use Rattle.arrivals.specs.Quotients.{div_rises, rounded_up_le, rounded_up_some, rounded_up_rises, windowed_rises}
 
 pub meaning_kept : (m : Message) → Kept (meaning m)

@@ -1,5 +1,5 @@
 -- Worked values of the arrival bounds.
-use Rattle.std.specs.Prelude.{◌≡◌, ℕ}
+use Rattle.std.specs.Prelude.{◌≡◌}
 use Rattle.arrivals.specs.declared.messages.Message.{Message}
 use Rattle.arrivals.specs.Messages.{message_alpha}
 

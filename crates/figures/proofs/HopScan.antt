@@ -1,5 +1,5 @@
 -- The delays at the ports of one hop, told one stream after the other.
-use Rattle.std.proofs.Common.{◌≡◌, ℕ, ◌+◌, ◌<◌, ◌≤◌, ◌⊎◌, List, [], ◌∷◌, ◌++◌, length, get_or, take, drop, set, replicate, Some, None, Option, sym, refl, ap, ◌∙◌, subst, inl, inr, arith}
+use Rattle.std.proofs.Common.{◌≡◌, ℕ, ◌+◌, ◌<◌, ◌≤◌, List, ◌++◌, length, get_or, take, drop, set, replicate, Some, None, Option, sym, refl, ap, ◌∙◌, subst, inl, inr, arith}
 use Rattle.std.proofs.lemmas.List.{get_or-set_same, get_or-set_other, get_or-replicate, get_or_past, length-set, take-append-drop}
 use Rattle.std.proofs.lemmas.Bool.{cases_lt, cases_eq}
 use Rattle.std.specs.List.{HoldsAt}
@@ -7,7 +7,6 @@ use Rattle.figures.specs.declared.hops.Hop.{Hop}
 use Rattle.figures.specs.declared.racks.Rack.{Rack}
 use Rattle.figures.specs.declared.streams.Stream.{Stream}
 use Rattle.ports.specs.Limits.{horizon}
-use Rattle.figures.specs.Tables.{◌∈◌}
 use Rattle.figures.specs.Told.{Late, DelayAt, StreamToldFor, FirstWithout}
 use Rattle.figures.proofs.Items.{drop_item, in_front}
 

@@ -1,19 +1,18 @@
 -- What the code adds up by places is what the definitions add up by streams, at the ports of either hop.
-use Rattle.std.proofs.Common.{◌≡◌, ℕ, zero, suc, ◌+◌, ◌-◌, ◌/◌, ◌<◌, ◌≤◌, min, Bool, true, false, cond, ◌&&◌, eqb, ltb, ◌⊎◌, List, [], ◌∷◌, ◌++◌, length, get_or, Some, None, sum_by, Option, sym, refl, ap, ◌∙◌, subst, inl, inr, arith}
+use Rattle.std.proofs.Common.{◌≡◌, ℕ, suc, ◌+◌, ◌-◌, ◌/◌, ◌<◌, min, cond, List, [], ◌∷◌, length, get_or, Some, None, sum_by, Option, refl, ap, subst, arith}
 use Rattle.std.specs.List.{HoldsAt}
 use Rattle.std.proofs.lemmas.List.{get_or_default}
 use Rattle.std.proofs.lemmas.List.Sums.{sum_by-cons}
 use Rattle.figures.specs.declared.groups.Group.{Group}
-use Rattle.figures.specs.declared.groups.Group.TheVariants.{From, FromAbove, ToAbove, Between}
+use Rattle.figures.specs.declared.groups.Group.TheVariants.{Between}
 use Rattle.figures.specs.declared.hops.Hop.{Hop}
 use Rattle.figures.specs.declared.hops.Hop.TheVariants.{Probe, Hub}
 use Rattle.figures.specs.declared.racks.Line.{Line}
 use Rattle.figures.specs.declared.racks.Rack.{Rack}
 use Rattle.figures.specs.declared.streams.Stream.{Stream}
-use Rattle.ports.specs.Limits.{horizon}
-use Rattle.ports.specs.Port.{Delay, PortDelay}
+use Rattle.ports.specs.Port.{PortDelay}
 use Rattle.figures.specs.Racks.{numbers, line_at, cell_time, spread}
-use Rattle.figures.specs.Tables.{◌∈◌, over, probe_load, from_line, hub_load}
+use Rattle.figures.specs.Tables.{over, from_line, hub_load}
 use Rattle.figures.specs.Hops.{line_used, above}
 use Rattle.figures.specs.Sums.{in_group, seen, group_from, group_load, line_load, lines_load, hub_sum}
 use Rattle.figures.specs.Told.{lateness, Late, DelayAt, StreamToldFor, Near}

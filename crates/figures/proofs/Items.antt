@@ -1,7 +1,6 @@
 -- The steps of a loop over a list whose elements have no default.
-use Rattle.std.proofs.Common.{◌≡◌, ℕ, zero, suc, ◌+◌, ◌<◌, ◌⊎◌, List, [], ◌∷◌, length, get_or, take, drop, sym, refl, ap, ◌∙◌, subst, inl, inr, arith, length-take}
+use Rattle.std.proofs.Common.{◌≡◌, ℕ, zero, suc, ◌+◌, ◌<◌, List, [], ◌∷◌, length, get_or, take, drop, sym, refl, ap, ◌∙◌, inl, inr, arith, length-take}
 use Rattle.std.proofs.lemmas.List.{drop_more, get_or-take}
-use Rattle.std.specs.List.{HoldsAt}
 use Rattle.figures.specs.Tables.{◌∈◌}
 
 -- the element that a loop reads at i stands before the rest

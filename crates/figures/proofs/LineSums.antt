@@ -1,5 +1,5 @@
 -- What the in-bound lines bring to a hub port never falls as the window grows.
-use Rattle.std.proofs.Common.{◌≡◌, ℕ, ◌+◌, ◌-◌, ◌/◌, ◌≤◌, min, true, List, [], ◌∷◌, Some, None, Option, refl, arith}
+use Rattle.std.proofs.Common.{◌≡◌, ℕ, ◌+◌, ◌-◌, ◌≤◌, true, List, [], ◌∷◌, Some, None, Option, arith}
 use Rattle.arrivals.specs.Limits.{longest}
 use Rattle.arrivals.specs.Quotients.{div_rises}
 use Rattle.figures.specs.declared.groups.Group.TheVariants.{Between}
@@ -8,7 +8,7 @@ use Rattle.figures.specs.declared.racks.Rack.{Rack}
 use Rattle.figures.specs.declared.streams.Stream.{Stream}
 use Rattle.ports.specs.Loads.{Rising, Lawful}
 use Rattle.figures.specs.Racks.{numbers, line_at, cell_time_of, spread, rack_kept}
-use Rattle.figures.specs.Sums.{group_load, line_load, lines_load, hub_sum}
+use Rattle.figures.specs.Sums.{line_load, lines_load, hub_sum}
 use Rattle.figures.proofs.GroupSums.{group_rises}
 use Rattle.figures.proofs.RackLimits.{line_timed}
 

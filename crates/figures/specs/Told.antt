@@ -1,5 +1,5 @@
 -- What the figure calls answer, for a table in a rack.
-use Rattle.std.specs.Prelude.{◌≡◌, ℕ, ◌+◌, ◌-◌, ◌<◌, ◌≤◌, ◌⊎◌, List, [], ◌∷◌, ◌++◌, length, Some, None, Ok, Err, Option, Result, slice_index, slice_index_or}
+use Rattle.std.specs.Prelude.{◌≡◌, ℕ, ◌+◌, ◌-◌, ◌<◌, ◌≤◌, ◌⊎◌, List, ◌∷◌, ◌++◌, length, Some, None, Ok, Err, Option, Result, slice_index, slice_index_or}
 use Rattle.std.specs.List.{HoldsAt}
 use Rattle.figures.specs.declared.delays.Delays.{Delays as Listing}
 use Rattle.figures.specs.declared.delays.Figures.{Figures}

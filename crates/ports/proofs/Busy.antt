@@ -1,8 +1,7 @@
 -- A port's busy period: when it is clear again, and where most cells hold a place.
-use Rattle.std.proofs.Common.{◌≡◌, ℕ, ◌+◌, ◌-◌, ◌*◌, ◌/◌, ◌%◌, ◌<◌, ◌≤◌, min, max, ◌⊎◌, sym, ap, subst, inl, inr, mul-le-mul_right, mul_comm, add-mul, mul-le-mul_left, one-mul, div-mul-le_self, arith}
+use Rattle.std.proofs.Common.{◌≡◌, ℕ, ◌+◌, ◌-◌, ◌*◌, ◌/◌, ◌<◌, ◌≤◌, min, max, ◌⊎◌, ap, subst, inl, inr, mul-le-mul_right, add-mul, one-mul, div-mul-le_self, arith}
 use Rattle.std.proofs.lemmas.Bool.{cases_lt}
 use Rattle.std.proofs.lemmas.Nat.{le-div, div_below, div-mul-add}
-use Rattle.arrivals.specs.Limits.{longest}
 use Rattle.arrivals.specs.Least.{Largest}
 use Rattle.ports.specs.Limits.{horizon}
 use Rattle.ports.specs.Loads.{Rising}

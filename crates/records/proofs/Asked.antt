@@ -1,5 +1,5 @@
 -- What the figures of a table say in answer to a figure call.
-use Rattle.std.proofs.Common.{◌≡◌, ℕ, ◌⊎◌, List, Some, None, Ok, Err, Option, Result, sym, refl, ap, ◌∙◌, subst, subst₂, inl, inr, arith}
+use Rattle.std.proofs.Common.{◌≡◌, ℕ, List, Some, None, Ok, Err, Option, Result, sym, refl, ◌∙◌, subst, subst₂, inl, inr, arith}
 use Rattle.figures.specs.declared.delays.Delays.{Delays as Listing}
 use Rattle.figures.specs.declared.delays.StreamFigures.{StreamFigures}
 use Rattle.figures.specs.declared.faults.FigureFault.{FigureFault}

@@ -1,15 +1,13 @@
 -- A request on the records: the state before it, and the state that it leaves.
-use Rattle.std.proofs.Common.{◌≡◌, ℕ, ◌+◌, ◌<◌, ◌≤◌, min, true, ltb, List, ◌++◌, length, take, drop, None, sym, refl, ap, ◌∙◌, subst, arith}
+use Rattle.std.proofs.Common.{◌≡◌, ℕ, ◌+◌, ◌<◌, ◌≤◌, min, ltb, List, ◌++◌, length, take, drop, None, ap, ◌∙◌, arith}
 use Rattle.std.proofs.lemmas.List.{length-take-le}
 use Rattle.std.proofs.lemmas.List.Sums.{prefix_len-le-length}
 use Rattle.figures.specs.declared.racks.Rack.{Rack}
 use Rattle.figures.specs.declared.streams.Stream.{Stream}
 use Rattle.figures.specs.Limits.{most_streams}
-use Rattle.figures.specs.Tables.{table_kept, Distinct}
 use Rattle.records.specs.Lists.{place, filed}
 use Rattle.records.specs.Sound.{Sound}
 use Rattle.records.specs.States.{State, unfiled}
-use Rattle.records.proofs.Differ.{differ_distinct}
 use Rattle.records.proofs.Filing.{front_is, same_length}
 use Rattle.records.proofs.Refusals.{unfiled_none, filed_sound}
 

@@ -1,5 +1,5 @@
 -- A withdrawal on the records: the state that it leaves.
-use Rattle.std.proofs.Common.{◌≡◌, ℕ, ◌+◌, ◌-◌, ◌<◌, ◌≤◌, min, List, [], ◌∷◌, ◌++◌, length, get_or, take, drop, None, sym, refl, ap, ◌∙◌, subst, arith}
+use Rattle.std.proofs.Common.{◌≡◌, ℕ, ◌-◌, ◌<◌, ◌≤◌, min, List, [], ◌∷◌, ◌++◌, length, get_or, take, drop, None, ap, ◌∙◌, arith}
 use Rattle.std.proofs.lemmas.List.Edits.{length-remove}
 use Rattle.std.proofs.lemmas.List.{length-append, length-drop, length-take-le, take_at}
 use Rattle.std.specs.List.{remove}
@@ -8,7 +8,7 @@ use Rattle.figures.specs.declared.streams.Stream.{Stream}
 use Rattle.figures.specs.Limits.{most_streams}
 use Rattle.records.specs.Lists.{number_at, withdrawn}
 use Rattle.records.specs.Sound.{Sound}
-use Rattle.records.specs.States.{State, unknown_stream}
+use Rattle.records.specs.States.{unknown_stream}
 use Rattle.records.proofs.Refusals.{unknown_stream_none, withdrawn_sound}
 use Rattle.records.proofs.Requests.{state}
 

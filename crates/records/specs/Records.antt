@@ -1,5 +1,5 @@
 -- The records of a network as a state.
-use Rattle.std.specs.Prelude.{◌≡◌, ℕ, ◌≤◌, min, List, length, take}
+use Rattle.std.specs.Prelude.{◌≤◌, min, List, length, take}
 use Rattle.figures.specs.declared.streams.Stream.{Stream}
 use Rattle.figures.specs.Limits.{most_streams}
 use Rattle.records.specs.declared.records.Records.{Records}

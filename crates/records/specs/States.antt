@@ -1,5 +1,5 @@
 -- What the records of a network stand for, and what each call on them answers and leaves.
-use Rattle.std.specs.Prelude.{◌≡◌, ℕ, ◌-◌, ◌≤◌, min, Bool, true, false, cond, not, ◌&&◌, ◌⊎◌, List, [], ◌∷◌, ◌++◌, length, get_or, take, drop, replicate, Some, None, Ok, Err, Option, Result, nat_le, nat_lt, slice_index_or, slice_set}
+use Rattle.std.specs.Prelude.{◌≡◌, ℕ, ◌-◌, Bool, true, false, cond, not, ◌&&◌, ◌⊎◌, List, [], ◌∷◌, ◌++◌, length, get_or, take, drop, replicate, Some, None, Ok, Err, Option, Result, nat_le, nat_lt, slice_index_or, slice_set}
 use Rattle.ports.specs.Limits.{longest_cell}
 use Rattle.figures.specs.declared.delays.Delays.{Delays as Listing}
 use Rattle.figures.specs.declared.delays.StreamFigures.{StreamFigures}
@@ -7,7 +7,7 @@ use Rattle.figures.specs.declared.faults.FigureFault.{FigureFault}
 use Rattle.figures.specs.declared.racks.Line.{Line}
 use Rattle.figures.specs.declared.racks.Rack.{Rack}
 use Rattle.figures.specs.declared.streams.Stream.{Stream}
-use Rattle.figures.specs.Limits.{longest_propagation, most_streams}
+use Rattle.figures.specs.Limits.{longest_propagation}
 use Rattle.figures.specs.Racks.{line_at, is_inbound, is_outbound}
 use Rattle.figures.specs.Tables.{Delays}
 use Rattle.figures.specs.Told.{DelaysAre, DelaysTold, NeedOf, NeedTold, StreamTold}

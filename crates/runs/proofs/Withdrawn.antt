@@ -16,7 +16,7 @@ use Rattle.ports.specs.Loads.{Lawful}
 use Rattle.figures.specs.Tables.{◌∈◌, over, Distinct, falls_under, placed, all_placed, table_kept, hub_bound, probe_higher, hub_higher, FirstDelay, SecondDelay, probe_load, from_line, hub_load, Delays, Needs}
 use Rattle.figures.proofs.GroupSums.{seen_some}
 use Rattle.figures.proofs.TableFacts.{rack_is_kept, few, falls, are_placed}
-use Rattle.runs.specs.Count.{during, number}
+use Rattle.runs.specs.Count.{during}
 use Rattle.runs.specs.Run.{brought}
 use Rattle.runs.specs.Promise.{FiguresFall, Withdrawal, RunsStay}
 use Rattle.runs.proofs.Counts.{some_or_none, count_none}

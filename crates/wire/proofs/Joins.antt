@@ -1,8 +1,8 @@
 -- Walking and joining undo each other.
-use Rattle.std.proofs.Common.{◌≡◌, ℕ, zero, suc, ◌+◌, ◌*◌, ◌/◌, ◌%◌, ◌<◌, ◌≤◌, Bool, true, false, cond, leb, List, [], ◌∷◌, ◌++◌, length, take, drop, sym, refl, ap, ◌∙◌, subst, arith, length-append, take-append-drop, length-take, rules, leb-true}
-use lib.Seq.{take-append_seam, drop-append_seam, length_front}
+use Rattle.std.proofs.Common.{◌≡◌, ℕ, zero, suc, ◌+◌, ◌/◌, ◌%◌, ◌<◌, ◌≤◌, Bool, true, false, cond, leb, List, [], ◌∷◌, ◌++◌, length, take, drop, sym, refl, ap, ◌∙◌, subst, arith, length-append, take-append-drop, length-take, rules, leb-true}
+use lib.Seq.{take-append_seam, drop-append_seam}
 use Rattle.wire.specs.Bytes.{be}
-use Rattle.wire.specs.Walks.{Step, end, cut, piece, step_of, framed, joined, PlacedFrom, Walk, AllBytes, AllFit, WalkJoins}
+use Rattle.wire.specs.Walks.{end, cut, piece, step_of, framed, joined, PlacedFrom, Walk, AllBytes, AllFit, WalkJoins}
 
 -- the parts of a record that was met
 pub record Parts (at : ℕ) (bytes : List ℕ) (place : ℕ) (front left : List ℕ) : Type 0 where

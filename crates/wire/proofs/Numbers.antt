@@ -1,6 +1,5 @@
 -- Bytes that are read one by one, as a part of the list.
-use Rattle.std.proofs.Common.{◌≡◌, ℕ, suc, ◌+◌, ◌<◌, ◌≤◌, List, [], ◌∷◌, length, get_or, take, drop, refl, add-one, arith, drop-cons}
-use Rattle.wire.specs.Bytes.{be}
+use Rattle.std.proofs.Common.{◌≡◌, ℕ, suc, ◌+◌, ◌<◌, ◌≤◌, List, [], ◌∷◌, length, get_or, take, drop, add-one, arith, drop-cons}
 
 one_more : (w p : ℕ) (bs : List ℕ) → p < length bs → take (suc w) (drop p bs) ≡ get_or bs p 0 ∷ take w (drop (suc p) bs)
 one_more w p bs h = rw (drop-cons bs p 0 h)

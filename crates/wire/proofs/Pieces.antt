@@ -1,5 +1,5 @@
 -- The first record, from how the code cuts it.
-use Rattle.std.proofs.Common.{◌≡◌, ℕ, ◌+◌, ◌-◌, ◌*◌, ◌≤◌, true, cond, leb, List, [], ◌∷◌, length, get_or, take, drop, refl, arith, rules}
+use Rattle.std.proofs.Common.{◌≡◌, ℕ, ◌-◌, ◌≤◌, true, leb, List, [], ◌∷◌, length, get_or, take, drop, arith, rules}
 use Rattle.wire.specs.Bytes.{be}
 use Rattle.wire.specs.Walks.{step_of, piece}
 

@@ -1,5 +1,5 @@
 -- What the bytes of a record say: its shape, by its code and its length, and then its values.
-use Rattle.std.specs.Prelude.{ℕ, ◌+◌, Bool, cond, ◌&&◌, List, [], ◌∷◌, length, drop, Some, None, Ok, Err, Option, Result, ◌==◌, nat_le}
+use Rattle.std.specs.Prelude.{ℕ, Bool, cond, ◌&&◌, List, [], ◌∷◌, length, drop, Some, None, Ok, Err, Option, Result, ◌==◌, nat_le}
 use Rattle.arrivals.specs.declared.buckets.Bucket.{Bucket}
 use Rattle.arrivals.specs.declared.choices.Choice.{Choice}
 use Rattle.arrivals.specs.declared.choices.Choice.TheVariants.{First, Second}

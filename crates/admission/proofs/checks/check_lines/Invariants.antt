@@ -1,4 +1,4 @@
-use Rattle.std.proofs.Common.{◌≡◌, ℕ, ◌<◌, ◌≤◌, Ok}
+use Rattle.std.proofs.Common.{ℕ, ◌<◌, ◌≤◌, Ok}
 use Rattle.admission.specs.Checks.{LineTold}
 use Rattle.admission.proofs.checks.check_lines.Given as goal
 

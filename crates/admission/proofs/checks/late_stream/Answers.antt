@@ -1,6 +1,6 @@
-use Rattle.std.proofs.Common.{◌≤◌, length, subst, inl, inr, arith}
+use Rattle.std.proofs.Common.{◌≤◌, length, subst, arith}
 use Rattle.figures.specs.Told.{StreamTold}
-use Rattle.admission.proofs.Parts.{InTimeBelow, in_time_more, first_late, all_in_time}
+use Rattle.admission.proofs.Parts.{in_time_more, first_late, all_in_time}
 use Rattle.admission.proofs.checks.late_stream.Goals as goal
 use Rattle.admission.proofs.checks.late_stream.Goals.{in-Some+else-figures-stream, in_default}
 

@@ -1,4 +1,4 @@
-use Rattle.std.proofs.Common.{◌≡◌, ◌+◌, ◌≤◌, min, ap, arith}
+use Rattle.std.proofs.Common.{min, ap, arith}
 use Rattle.std.proofs.lemmas.List.{drop_more, drop_all}
 use Rattle.arrivals.specs.Limits.{longest}
 use Rattle.figures.specs.Sums.{lines_load}

@@ -1,4 +1,4 @@
-use Rattle.std.proofs.Common.{◌≡◌, sym, refl, ap, ◌∙◌}
+use Rattle.std.proofs.Common.{sym, ap, ◌∙◌}
 use Rattle.figures.specs.Racks.{line_kept}
 use Rattle.figures.proofs.RackLimits.{lines_kept_more, lines_kept_fails, lines_kept_all}
 use Rattle.figures.proofs.racks.lines_are_kept.Goals as goal

@@ -1,4 +1,4 @@
-use Rattle.std.proofs.Common.{◌≡◌, ◌+◌, ◌-◌, ◌*◌, ◌/◌, ◌<◌, ◌≤◌, min, ap, subst, arith}
+use Rattle.std.proofs.Common.{◌≡◌, ◌+◌, ◌-◌, ◌*◌, ◌/◌, ◌<◌, min, ap, subst, arith}
 use Rattle.arrivals.specs.Limits.{longest}
 use Rattle.ports.proofs.Busy.{not_clear, clear_later}
 use Rattle.ports.proofs.needs.clears.Goals as goal

@@ -1,5 +1,4 @@
-use Rattle.std.proofs.Common.{◌≡◌, ◌≤◌, max, sym, ap, ◌∙◌, subst, arith}
-use Rattle.ports.specs.Port.{holding}
+use Rattle.std.proofs.Common.{max, sym, ap, ◌∙◌, subst}
 use Rattle.ports.proofs.Busy.{Scanned, scanned_first, scanned_next}
 use Rattle.ports.proofs.needs.most_held.Goals as goal
 

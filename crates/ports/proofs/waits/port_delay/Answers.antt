@@ -1,4 +1,4 @@
-use Rattle.std.proofs.Common.{◌≡◌, ℕ, ◌+◌, ◌-◌, ◌<◌, ◌≤◌, min, max, sym, subst, arith}
+use Rattle.std.proofs.Common.{◌≡◌, ◌+◌, min, sym, subst, arith}
 use Rattle.arrivals.specs.Limits.{longest}
 use Rattle.ports.specs.Port.{Delay}
 use Rattle.ports.proofs.Leaps.{wait_near}

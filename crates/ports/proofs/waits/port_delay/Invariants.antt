@@ -1,4 +1,4 @@
-use Rattle.std.proofs.Common.{◌-◌, ◌≤◌}
+use Rattle.std.proofs.Common.{◌-◌}
 use Rattle.ports.proofs.Walk.{Walk}
 use Rattle.ports.proofs.waits.port_delay.Given as goal
 

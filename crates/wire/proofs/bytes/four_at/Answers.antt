@@ -1,4 +1,3 @@
-use Rattle.std.proofs.Common.{arith}
 use Rattle.wire.proofs.Numbers.{part_four}
 use Rattle.wire.proofs.bytes.four_at.Goals as goal
 

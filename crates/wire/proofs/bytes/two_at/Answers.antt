@@ -1,4 +1,3 @@
-use Rattle.std.proofs.Common.{arith}
 use Rattle.wire.proofs.Numbers.{part_two}
 use Rattle.wire.proofs.bytes.two_at.Goals as goal
 

@@ -1,4 +1,4 @@
-use Rattle.std.proofs.Common.{◌≤◌, sym, refl, subst, arith}
+use Rattle.std.proofs.Common.{◌≤◌, sym, subst, arith}
 use Rattle.ports.specs.Limits.{longest_cell}
 use Rattle.ports.specs.Loads.{Lawful}
 use Rattle.ports.specs.Port.{PortNeed}

@@ -1,4 +1,4 @@
-use Rattle.std.proofs.Common.{◌≤◌, replicate, None, sym, refl, subst}
+use Rattle.std.proofs.Common.{◌≤◌, replicate, None, sym, subst}
 use Rattle.figures.specs.declared.groups.Group.TheVariants.{From}
 use Rattle.figures.specs.declared.hops.Hop.TheVariants.{Probe}
 use Rattle.ports.specs.Limits.{longest_cell}

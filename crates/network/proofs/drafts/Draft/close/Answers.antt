@@ -1,10 +1,8 @@
-use Rattle.std.proofs.Common.{◌≡◌, ℕ, min, true, List, [], length, take, sym, refl, ap, ◌∙◌, subst}
+use Rattle.std.proofs.Common.{◌≡◌, ℕ, min, List, [], length, sym, subst}
 use Rattle.figures.specs.declared.racks.Rack.{Rack}
 use Rattle.figures.specs.declared.streams.Stream.{Stream}
 use Rattle.figures.specs.Limits.{most_streams}
-use Rattle.figures.specs.Racks.{rack_kept}
 use Rattle.figures.specs.Tables.{Passing}
-use Rattle.records.specs.States.{State}
 use Rattle.records.proofs.Requests.{state}
 use Rattle.network.proofs.EmptyTable.{passing_empty}
 use Rattle.network.proofs.drafts.Draft.close.Goals as goal

@@ -1,4 +1,4 @@
-use Rattle.std.proofs.Common.{◌≡◌, refl, arith}
+use Rattle.std.proofs.Common.{refl, arith}
 use Rattle.records.proofs.Requests.{state}
 use Rattle.network.proofs.CallLists.{carrying_more, carrying_all}
 use Rattle.network.proofs.networks.public.carry_all.Goals as goal

@@ -1,4 +1,4 @@
-use Rattle.std.proofs.Common.{◌≡◌, length, take, subst}
+use Rattle.std.proofs.Common.{length, take, subst}
 use Rattle.figures.specs.Tables.{Passing}
 use Rattle.records.proofs.Requests.{state}
 use Rattle.network.specs.States.{Carried}

@@ -1,4 +1,4 @@
-use Rattle.std.proofs.Common.{◌≡◌, ◌+◌, ◌≤◌, min, true, ◌++◌, length, take, drop, None, Ok, sym, refl, ap, ◌∙◌, subst, arith}
+use Rattle.std.proofs.Common.{◌≡◌, ◌+◌, ◌≤◌, min, true, ◌++◌, length, take, drop, None, Ok, sym, ◌∙◌, subst, arith}
 use Rattle.std.specs.List.{insert}
 use Rattle.figures.specs.Limits.{most_streams}
 use Rattle.figures.specs.Tables.{table_kept, Distinct}

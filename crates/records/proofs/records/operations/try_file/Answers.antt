@@ -1,4 +1,4 @@
-use Rattle.std.proofs.Common.{◌≡◌, ◌+◌, ◌≤◌, true, take, sym, ap, ◌∙◌, subst, arith}
+use Rattle.std.proofs.Common.{◌≡◌, true, sym, ◌∙◌, subst, arith}
 use Rattle.figures.specs.Tables.{table_kept, Distinct}
 use Rattle.admission.specs.Checks.{CheckTold}
 use Rattle.records.proofs.Filing.{front_is, same_length, if_failed, if_went}
