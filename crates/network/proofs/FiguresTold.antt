@@ -1,12 +1,15 @@
 -- Where the table passes, the figure calls tell the figures of every stream and of every line that is there, and
 -- whatever figures they tell are those by which it passes.
-use Rattle.std.proofs.Common.{◌≡◌, ℕ, zero, suc, ◌<◌, ◌≤◌, Bool, true, false, not, eqb, ltb, List, [], ◌∷◌, map, length, get_or, Some, None, Ok, Err, Option, sym, refl, ap, ◌∙◌, subst, inl, inr, ⊎_elim, arith}
+use Rattle.std.proofs.Common.{◌≡◌, ℕ, zero, suc, ◌-◌, ◌<◌, ◌≤◌, Bool, true, false, not, eqb, ltb, List, [], ◌∷◌, map, length, get_or, Some, None, Ok, Err, Option, sym, refl, ap, ◌∙◌, subst, inl, inr, ⊎_elim, arith}
 use Rattle.std.proofs.lemmas.List.{get_or-map}
 use Rattle.std.proofs.lemmas.Bool.{and_from, and_parts, both_ways, cases_Bool, cond-true, eq-eqb, eqb-true, le-leb, lt-ltb, not-false, not_from_true}
 use Rattle.std.specs.List.{prefix_len}
 use Rattle.ports.specs.Limits.{horizon}
 use Rattle.figures.specs.declared.delays.Delays.{Delays as Listing}
+use Rattle.figures.specs.declared.delays.Figures.{Figures}
 use Rattle.figures.specs.declared.delays.StreamFigures.{StreamFigures}
+use Rattle.figures.specs.declared.faults.FigureFault.{FigureFault}
+use Rattle.figures.specs.declared.faults.FigureFault.TheVariants.{NoDelay, NoNeed}
 use Rattle.figures.specs.declared.racks.Line.{Line}
 use Rattle.figures.specs.declared.racks.Rack.{Rack}
 use Rattle.figures.specs.declared.racks.Side.{Side}
@@ -14,14 +17,15 @@ use Rattle.figures.specs.declared.racks.Side.TheVariants.{Inbound, Outbound}
 use Rattle.figures.specs.declared.streams.Stream.{Stream}
 use Rattle.figures.specs.Racks.{is_inbound, is_outbound, line_at}
 use Rattle.figures.specs.Tables.{◌∈◌, HubNeed, Passing, ProbeNeed, total}
-use Rattle.figures.specs.Told.{DelaysAre, Listed, NeedOf, NeedOn, StreamTold}
+use Rattle.figures.specs.Told.{DelaysAre, DelaysTold, FiguresAre, FiguresTold, Listed, NeedOf, NeedOn, NeedTold, NoNeeds, StreamTold}
 use Rattle.figures.proofs.Hopwise.{delay_near}
 use Rattle.figures.proofs.Items.{at_in}
 use Rattle.figures.proofs.Uniqueness.{tables_unique}
 use Rattle.runs.proofs.Sound.{line_there}
 use Rattle.admission.specs.declared.faults.TableFault.{TableFault}
+use Rattle.admission.specs.declared.faults.TableFault.TheVariants.{Figure}
 use Rattle.admission.proofs.Parts as parts
-use Rattle.admission.proofs.Uniquely.{need_one}
+use Rattle.admission.proofs.Uniquely.{need_one, one_verdict}
 use Rattle.records.specs.declared.lines.LineFigures.{LineFigures}
 use Rattle.records.specs.Limits.{last_line, last_stream}
 use Rattle.records.specs.Lists.{number_at}
@@ -59,6 +63,9 @@ some_line None e = absurd (both_ways (is_there None) refl e)
 ok_err : {X : Type 0} {x : X} {fault : TableFault} → Ok x ≡ Err fault → ⊥
 ok_err e = let z : ◌≡◌ {A = ℕ} 0 1 = cc in omega arith
 
+none_some : {a : ℕ} → ◌≡◌ {A = Option ℕ} None (Some a) → ⊥
+none_some e = let z : ◌≡◌ {A = ℕ} 0 1 = cc in omega arith
+
 some_same : (a b : ℕ) → ◌≡◌ {A = Option ℕ} (Some a) (Some b) → a ≡ b
 some_same a b e = cc
 
@@ -85,17 +92,56 @@ module _ {K : Type 0} (st : State K) (S : Sound st) where
       (sym (eqb-true _ _ (not-false _ (stop (λ x. not (eqb x.number s.number)) st.streams d less))))
 
   -- a call that names it is not refused
-  pub stream_known : (s : Stream K) → s ∈ st.streams → unknown_stream st s.number ≡ None
+  stream_known : (s : Stream K) → s ∈ st.streams → unknown_stream st s.number ≡ None
   stream_known s m =
       let good = fields_of st.streams S.fields s m in
       cond-true (within 1 s.number last_stream) _ _ (and_parts (within 1 s.number last_stream) _ good).0
       ∙ cond-true (ltb (number_at s.number st.streams) (length st.streams)) _ _ (lt-ltb _ _ (place_of_number s m))
 
-  pub line_known : (l : ℕ) → is_there (line_at st.rack l) ≡ true → unknown_line st l ≡ None
+  line_known : (l : ℕ) → is_there (line_at st.rack l) ≡ true → unknown_line st l ≡ None
   line_known l e =
       let p = line_there st.rack is_there refl l e in
       cond-true (within 1 l last_line) _ _ (within_from 1 l last_line p.0 (omega (arith, p.1, S.sixteen)))
       ∙ cond-true (is_there (line_at st.rack l)) _ _ e
+
+-- what the figures of a whole table tell is what the figure calls tell
+module _ {K : Type 0} (α : K → ℕ → ℕ) (st : State K) (S : Sound st) where
+  -- of the stream at the place i
+  pub stream_by_delays : (delays : Listing) → DelaysAre α st.rack st.streams delays → (i : ℕ) (s d : Stream K) → i < length st.streams
+      → s ≡ get_or st.streams i d → (told : StreamFigures) → StreamTold st.rack st.streams delays i told → StreamAnswer α st s.number (Ok told)
+  stream_by_delays delays are i s d less is told t =
+      let m = subst (λ x. x ∈ st.streams) (sym is) (at_in st.streams i d less) in
+      let at = number_at s.number st.streams in
+      let there = place_of_number st S s m in
+      let same : (e : Stream K) → get_or st.streams i d ≡ get_or st.streams at e = λ e. sym is ∙ stream_there st S s m e in
+      let by_number : StreamTold st.rack st.streams delays at told =
+      record {
+        there = there;
+        q1_is = t.q1_is ∙ are.first_listed i less d ∙ ap are.q1 (same d) ∙ sym (are.first_listed at there d);
+        q2_is = t.q2_is ∙ are.second_listed i less d ∙ ap are.q2 (same d) ∙ sym (are.second_listed at there d);
+        total_is = λ e. t.total_is d ∙ ap (total st.rack told.q1 told.q2) (same e);
+      } in
+      subst (λ o. StreamAsked α st o s.number (Ok told)) (sym (stream_known st S s m)) (delays, are, by_number)
+
+  -- of the line n
+  pub line_by_figures : (figures : Figures) → FiguresAre α st.rack st.streams figures → (n : ℕ) → 1 ≤ n → n ≤ 16 → (line : Line)
+      → line_at st.rack n ≡ Some line → (need : ℕ) → get_or figures.needs (n - 1) None ≡ Some need
+      → LineAnswer α st n (Ok (record { need = need; places = line.places }))
+  line_by_figures figures are n low high line there need is =
+      let told : LineFigures = record { need = need; places = line.places } in
+      let figured : LineFigured α st n told =
+      record {
+        q1 = are.delays_are.q1;
+        q2 = are.delays_are.q2;
+        delays = are.delays_are.are;
+        line = line;
+        there = there;
+        need_is =
+            subst (λ o. NeedOf α st.rack st.streams are.delays_are.q1 n o (Some need)) there
+            (subst (λ r. NeedTold α st.rack st.streams are.delays_are.q1 n (Ok r)) is (are.needs_are n low high));
+        places_are = refl;
+      } in
+      subst (λ o. LineAsked α st o n (Ok told)) (sym (line_known st S n (ap is_there there))) figured
 
 module _ {K : Type 0} (α : K → ℕ → ℕ) (st : State K) (S : Sound st) (P : Passing α st.rack st.streams) where
   abbrev listing : Listing
@@ -198,3 +244,24 @@ module _ {K : Type 0} (α : K → ℕ → ℕ) (st : State K) (S : Sound st) (P 
   told_fits l told answer =
       let f = line_figured l told (unknown_line st l) answer in
       omega (arith, told_need l told answer, f.places_are, P.room l f.line f.there)
+
+  -- no figure is missing
+  need_never : (q1 : Stream K → ℕ) → ((s : Stream K) → s ∈ st.streams → q1 s ≡ P.q1 s) → (l : ℕ) (o : Option Line) → line_at st.rack l ≡ o
+      → NeedOf α st.rack st.streams q1 l o None → ⊥
+  need_never q1 same l None at h = h
+  need_never q1 same l (Some line) at h =
+      none_some (need_one α st.rack st.streams q1 P.q1 same l (Some line) None (Some (P.need l)) h (need_of l line at))
+
+  needs_there : (x : FigureFault) → NoNeeds α st.rack st.streams x → ⊥
+  needs_there (NoNeed m) n =
+      need_never n.are.q1 (λ s m. ((tables_unique K).same_delays α st.rack st.streams n.are.q1 n.are.q2 P.q1 P.q2 n.are.are P.delays s m).0)
+      n.never.line (line_at st.rack n.never.line) refl n.never.never.1
+  needs_there (NoDelay m) n = n.never.never
+
+  delays_there : (x : FigureFault) → DelaysTold α st.rack st.streams (Err x) → ⊥
+  delays_there (NoDelay m) told = ok_err (one_verdict K α st.rack st.streams (Ok tt) (Err (Figure (NoDelay m))) P told)
+  delays_there (NoNeed l) told = told
+
+  pub figures_there : (x : FigureFault) → FiguresTold α st.rack st.streams (Err x) → ⊥
+  figures_there x (inl told) = delays_there x told
+  figures_there x (inr n) = needs_there x n

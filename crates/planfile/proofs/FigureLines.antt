@@ -1,72 +1,18 @@
--- The figure calls tell every figure of a table that passes, and the lines that tell them grow one by one.
-use Rattle.std.proofs.Common.{◌≡◌, ℕ, suc, ◌+◌, ◌-◌, ◌<◌, ◌≤◌, Bool, true, false, cond, eqb, List, [], ◌∷◌, ◌++◌, length, get_or, take, is_some, Some, None, Ok, Err, Option, Result, sym, refl, ap, ◌∙◌, subst, inl, inr, append_assoc, arith, length-take}
-use Rattle.std.proofs.lemmas.List.{append-nil, take_all, take_more}
-use Rattle.std.proofs.lemmas.Bool.{both_ways, cond-false, ne_eqb}
+-- The lines that tell the figures of a network grow one by one.
+use Rattle.std.proofs.Common.{◌≡◌, ℕ, ◌+◌, ◌-◌, ◌<◌, ◌≤◌, eqb, List, [], ◌∷◌, ◌++◌, length, get_or, take, Some, None, Ok, Option, sym, refl, ap, ◌∙◌, subst, append_assoc, arith, length-take}
+use Rattle.std.proofs.lemmas.List.{append-nil, take_more}
+use Rattle.std.proofs.lemmas.Bool.{cond-false, ne_eqb}
 use Rattle.arrivals.specs.declared.choices.Choice.TheVariants.{First}
 use Rattle.figures.specs.declared.delays.StreamFigures.{StreamFigures}
-use Rattle.figures.specs.declared.faults.FigureFault.{FigureFault}
-use Rattle.figures.specs.declared.faults.FigureFault.TheVariants.{NoDelay, NoNeed}
 use Rattle.figures.specs.declared.racks.Line.{Line}
-use Rattle.figures.specs.declared.racks.Rack.{Rack}
 use Rattle.figures.specs.declared.streams.Stream.{Stream}
 use Rattle.figures.specs.Racks.{line_at}
-use Rattle.figures.specs.Tables.{◌∈◌, Passing}
-use Rattle.figures.specs.Told.{DelaysTold, NeedOf, NeedTold}
-use Rattle.figures.proofs.Items.{at_in}
-use Rattle.figures.proofs.Uniqueness.{tables_unique}
-use Rattle.admission.specs.declared.faults.TableFault.{TableFault}
-use Rattle.admission.specs.declared.faults.TableFault.TheVariants.{Figure}
-use Rattle.admission.proofs.Uniquely.{need_one, one_verdict}
 use Rattle.listing.specs.declared.entries.Entry.{Entry}
 use Rattle.records.specs.declared.lines.LineFigures.{LineFigures}
-use Rattle.records.specs.States.{LineAnswer, LineAsked, LineFigured, LineFigureless, State, StreamAnswer, StreamAsked, StreamFigured, is_there, unknown_line, unknown_stream}
-use Rattle.records.specs.Sound.{Sound}
-use Rattle.network.proofs.FiguresTold.{lines_told, streams_told}
-use Rattle.wire.proofs.Joins.{never}
-use Rattle.planfile.specs.Figures.{LinesListed, StreamsListed, absent, no_line, no_stream, present, stream}
+use Rattle.records.specs.States.{LineAnswer, State, StreamAnswer}
+use Rattle.planfile.specs.Figures.{LinesListed, NetworkListed, StreamsListed, absent, no_line, no_stream, present, stream}
 use Rattle.planfile.specs.Kinds.{PlanKind, plan_alpha}
 use Rattle.planfile.specs.Points.{Added}
-
-refused_never : {F : Type 0} {told : F} {fault : TableFault} → Ok told ≡ Err fault → ⊥
-refused_never e = never (cc)
-
-module _ {K : Type 0} (α : K → ℕ → ℕ) (st : State K) (P : Passing α st.rack st.streams) where
-  -- every stream has its delays
-  delays_there : (x : FigureFault) → DelaysTold α st.rack st.streams (Err x) → ⊥
-  delays_there (NoDelay n) told = refused_never (one_verdict K α st.rack st.streams (Ok tt) (Err (Figure (NoDelay n))) P told)
-  delays_there (NoNeed l) told = told
-
-  stream_asked : (n : ℕ) (o : Option TableFault) (told : StreamFigures) → StreamAsked α st o n (Ok told)
-      → (fault : TableFault) → StreamAsked α st o n (Err fault) → ⊥
-  stream_asked n (Some f) told a fault b = refused_never a
-  stream_asked n None told a fault b = delays_there b.0 b.2
-
-  -- where the figure call tells a stream's figures, it does not refuse them
-  pub stream_figured : (n : ℕ) (told : StreamFigures) → StreamAnswer α st n (Ok told) → (fault : TableFault) → StreamAnswer α st n (Err fault) → ⊥
-  stream_figured n told a fault b = stream_asked n (unknown_stream st n) told a fault b
-
-  -- a line with a need is not without one
-  need_there : (l : ℕ) (told : LineFigures) → LineFigured α st l told → (x : FigureFault) → LineFigureless α st l x → ⊥
-  need_there l told f (NoNeed m) without =
-      let same = (tables_unique K).same_delays α st.rack st.streams f.q1 f.q2 without.q1 without.q2 f.delays without.delays in
-      let missing : NeedOf α st.rack st.streams without.q1 l (Some f.line) None =
-      subst (λ o. NeedOf α st.rack st.streams without.q1 l o None) f.there without.never.1 in
-      let e : Some told.need ≡ None = need_one α st.rack st.streams f.q1 without.q1 (λ s m. (same s m).0) l (Some f.line) (Some told.need) None f.need_is missing in
-      never (cc)
-  need_there l told f (NoDelay n) without = without.never
-
-  line_asked : (l : ℕ) (o : Option TableFault) (told : LineFigures) → LineAsked α st o l (Ok told)
-      → (fault : TableFault) → LineAsked α st o l (Err fault) → ⊥
-  line_asked l (Some f) told a fault b = refused_never a
-  line_asked l None told a fault (x, is, inl undelayed) = delays_there x undelayed
-  line_asked l None told a fault (x, is, inr without) = need_there l told a x without
-
-  pub line_figured : (l : ℕ) (told : LineFigures) → LineAnswer α st l (Ok told) → (fault : TableFault) → LineAnswer α st l (Err fault) → ⊥
-  line_figured l told a fault b = line_asked l (unknown_line st l) told a fault b
-
-is_there_some : (o : Option Line) → is_some o ≡ true → is_there o ≡ true
-is_there_some (Some line) e = refl
-is_there_some None e = e
 
 -- one line more behind those that were added
 added_more : (Sort Sort' : List Entry → Type 0) (lines lines₁ lines₂ : List Entry) (line : Entry) → ((more : List Entry) → Sort more → Sort' (more ++ line ∷ []))
@@ -103,12 +49,6 @@ module _ (st : State PlanKind) where
         (Entry.Stream s.number told.q1 told.q2 told.total)
         (λ more listed. subst (λ xs. StreamsListed st xs (more ++ Entry.Stream s.number told.q1 told.q2 told.total ∷ [])) (sym next) (more_streams s told listed answer))
         added noted
-
-    pub stream_refused_never : Sound st → Passing plan_alpha st.rack st.streams → (fault : TableFault)
-        → StreamAnswer plan_alpha st s.number (Err fault) → ⊥
-    stream_refused_never S P fault refused =
-        let told = streams_told plan_alpha st S P s (subst (λ x. x ∈ st.streams) (sym is) (at_in st.streams i d less)) in
-        stream_figured plan_alpha st P s.number told.0 told.1 fault refused
 
   more_absent : {l : ℕ} {slots : List (Option Line)} {ls : List Entry} → LinesListed st l slots ls → LinesListed st l (slots ++ None ∷ []) ls
   more_absent no_line = absent no_line
@@ -154,16 +94,15 @@ module _ (st : State PlanKind) where
       added.2,
     )
 
-    pub line_refused_never : Sound st → Passing plan_alpha st.rack st.streams → is_some (line_at st.rack n) ≡ true → (fault : TableFault)
-        → LineAnswer plan_alpha st n (Err fault) → ⊥
-    line_refused_never S P there fault refused =
-        let told = lines_told plan_alpha st S P n (is_there_some (line_at st.rack n) there) in
-        line_figured plan_alpha st P n told.0 told.1 fault refused
+  -- each stream has its line, and the streams and the lines together are the figures of the network
+  pub streams_length : {xs : List (Stream PlanKind)} {ls : List Entry} → StreamsListed st xs ls → length ls ≡ length xs
+  streams_length no_stream = refl
+  streams_length (stream s told a rest) = omega (arith, streams_length rest)
 
-pub some_line : (o : Option Line) → is_some o ≡ true → (line : Line) × (o ≡ Some line)
-some_line (Some line) e = (line, refl)
-some_line None e = absurd (both_ways (is_some {T = Line} None) refl e)
-
-pub no_such_line : (o : Option Line) → is_some o ≡ false → o ≡ None
-no_such_line (Some line) e = absurd (both_ways (is_some (Some line)) e refl)
-no_such_line None e = refl
+  pub network_added : (lines lines₁ lines₂ : List Entry) → Added (StreamsListed st st.streams) lines lines₁
+      → Added (LinesListed st 1 st.rack.lines) lines₁ lines₂ → Added (NetworkListed st) lines lines₂
+  network_added lines lines₁ lines₂ streams ports = (
+    streams.0 ++ ports.0,
+    record { of_streams = streams.0; of_lines = ports.0; streams_listed = streams.1; lines_listed = ports.1; in_order = refl },
+    ports.2 ∙ ap (λ ls. ls ++ ports.0) streams.2 ∙ append_assoc lines streams.0 ports.0,
+  )

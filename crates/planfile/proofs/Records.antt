@@ -1,13 +1,10 @@
 -- What a record that is read says at each phase, and where its fault stands.
-use Rattle.std.proofs.Common.{◌≡◌, ℕ, ◌≤◌, Bool, true, false, cond, eqb, leb, List, [], ◌∷◌, length, drop, Some, None, Ok, Err, Option, Result, sym, refl, ap, ◌∙◌, subst, arith, lit≤}
+use Rattle.std.proofs.Common.{◌≡◌, ℕ, ◌≤◌, Bool, true, false, cond, eqb, leb, List, [], ◌∷◌, length, drop, Some, None, Ok, Err, Option, Result, sym, refl, ◌∙◌, subst, arith, lit≤}
 use Rattle.std.proofs.lemmas.Bool.{both_ways, eqb-true}
-use Rattle.arrivals.specs.declared.buckets.Bucket.{Bucket}
 use Rattle.arrivals.specs.declared.choices.Choice.TheVariants.{First, Second}
 use Rattle.arrivals.specs.declared.faults.KindFault.{KindFault}
 use Rattle.arrivals.specs.declared.faults.KindFault.TheVariants as kind
-use Rattle.arrivals.specs.declared.messages.Message.{Message}
 use Rattle.figures.specs.declared.racks.Line.{Line}
-use Rattle.figures.specs.declared.racks.Side.{Side}
 use Rattle.figures.specs.declared.streams.Stream.{Stream}
 use Rattle.admission.specs.declared.faults.TableFault.{TableFault}
 use Rattle.admission.specs.declared.faults.TableFault.TheVariants.{OutsideLimits}
@@ -21,10 +18,10 @@ use Rattle.wire.specs.declared.records.Shape.TheVariants as shapes
 use Rattle.wire.specs.Bytes.{number_at}
 use Rattle.wire.specs.Faults.{place, with_place}
 use Rattle.wire.specs.Kinds.{message_of, bucket_of}
-use Rattle.wire.specs.Records.{coded, filing, line_of, long_of, record_of, shape_of, side_of, stream_of, values_of, with_kind, within}
+use Rattle.wire.specs.Records.{coded, filing, long_of, shape_of, side_of, stream_of, values_of, within}
 use Rattle.wire.proofs.Joins.{never}
 use Rattle.planfile.specs.declared.phases.Phase.{Phase}
-use Rattle.planfile.specs.declared.phases.Phase.TheVariants.{Opening, Drafting, Running}
+use Rattle.planfile.specs.declared.phases.Phase.TheVariants.{Drafting, Running}
 use Rattle.planfile.specs.Kinds.{PlanKind}
 use Rattle.planfile.specs.Lines.{of_input}
 use Rattle.planfile.specs.Stages.{admits, is_call, lined, read_in}

@@ -1,22 +1,22 @@
 -- One record at a stage: from what is read and done to what the definitions say of it.
-use Rattle.std.proofs.Common.{◌≡◌, ℕ, Bool, true, false, cond, List, Ok, Err, Result, sym, refl, ap, ◌∙◌, subst, MatchResult}
+use Rattle.std.proofs.Common.{◌≡◌, ℕ, Bool, true, false, List, Ok, Err, Result, sym, refl, ap, ◌∙◌, subst, MatchResult}
 use Rattle.std.proofs.lemmas.Bool.{cond-true, cond-false}
 use Rattle.figures.specs.Racks.{hub_kept}
 use Rattle.admission.specs.declared.faults.TableFault.{TableFault}
 use Rattle.admission.specs.declared.faults.TableFault.TheVariants.{OutsideLimits}
 use Rattle.listing.specs.declared.entries.Entry.{Entry}
 use Rattle.network.specs.declared.drafts.Draft.{Draft}
-use Rattle.records.specs.States.{bare_rack, if_passed}
+use Rattle.records.specs.States.{bare_rack}
 use Rattle.wire.specs.declared.faults.FileFault.{FileFault}
 use Rattle.wire.specs.declared.faults.FileFault.TheVariants.{Table}
 use Rattle.wire.specs.declared.records.Record.{Record}
 use Rattle.wire.specs.declared.records.Record.TheVariants as said
-use Rattle.wire.specs.Faults.{place, with_place}
+use Rattle.wire.specs.Faults.{with_place}
 use Rattle.planfile.specs.declared.phases.Phase.TheVariants.{Opening}
 use Rattle.planfile.specs.Kinds.{PlanKind}
 use Rattle.planfile.specs.Lines.{of_input}
 use Rattle.planfile.specs.Points.{Opens, Took, onward, with_answer}
-use Rattle.planfile.specs.Stages.{Did, Stage, Taken, Valued, hub_verdict, phase_of, read_in}
+use Rattle.planfile.specs.Stages.{Did, Stage, Taken, Valued, phase_of, read_in}
 use Rattle.planfile.proofs.Records.{misread}
 
 module _ (stage : Stage) (at : ℕ) (bytes : List ℕ) where

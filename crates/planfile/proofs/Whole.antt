@@ -1,9 +1,8 @@
 -- A whole file: its opening, its first record, and what follows.
-use Rattle.std.proofs.Common.{◌≡◌, ℕ, ◌+◌, ◌*◌, ◌<◌, ◌≤◌, Bool, true, false, cond, eqb, leb, List, [], ◌∷◌, ◌++◌, length, Some, None, Ok, Err, Result, sym, refl, ap, ◌∙◌, subst, subst₂, append_assoc, arith, MatchResult}
+use Rattle.std.proofs.Common.{◌≡◌, ℕ, ◌+◌, ◌≤◌, Bool, true, false, cond, eqb, leb, List, [], ◌∷◌, ◌++◌, length, Some, None, Ok, Err, Result, sym, refl, ap, ◌∙◌, subst, subst₂, arith, MatchResult}
 use Rattle.std.proofs.lemmas.List.{append-nil}
 use Rattle.std.proofs.lemmas.Bool.{leb-true}
 use Rattle.figures.specs.declared.racks.Rack.{Rack}
-use Rattle.figures.specs.declared.streams.Stream.{Stream}
 use Rattle.figures.specs.Tables.{Passing}
 use Rattle.listing.specs.declared.entries.Entry.{Entry}
 use Rattle.listing.specs.declared.entries.Entry.TheVariants.{Done}
@@ -17,7 +16,7 @@ use Rattle.wire.specs.Limits.{longest_file}
 use Rattle.wire.specs.Opening.{opening, versioned}
 use Rattle.wire.specs.Walks.{CutOff, Ended, Met}
 use Rattle.wire.proofs.Joins.{never}
-use Rattle.planfile.specs.Figures.{LinesListed, StreamsListed, no_stream, stream}
+use Rattle.planfile.specs.Figures.{NetworkListed}
 use Rattle.planfile.specs.Kinds.{PlanKind, plan_alpha}
 use Rattle.planfile.specs.Lines.{stop_line}
 use Rattle.planfile.specs.Plans.{PlanTold, Printed}
@@ -26,23 +25,19 @@ use Rattle.planfile.specs.Reading.{Read, ReadFrom}
 use Rattle.planfile.specs.Stages.{Stage}
 use Rattle.planfile.proofs.Reached.{at_end, cut_stops, fitting_on, taken_on, took_stops}
 
-pub streams_length : (st : State PlanKind) {xs : List (Stream PlanKind)} {ls : List Entry} → StreamsListed st xs ls → length ls ≡ length xs
-streams_length st no_stream = refl
-streams_length st (stream s told a rest) = omega (arith, streams_length st rest)
-
 -- the calls are carried out to the end of the file, and the figures follow
-pub finishes : (lines : List Entry) (stage stage' : Stage) (at : ℕ) (left : List ℕ) (room : ℕ) (answers lines₁ lines₂ : List Entry) (st : State PlanKind)
+pub finishes : (lines : List Entry) (stage stage' : Stage) (at : ℕ) (left : List ℕ) (room : ℕ) (answers lines' : List Entry) (st : State PlanKind)
     → stage ≡ stage' → Ends lines stage at left room answers (Stage.networked st) → Sound st → Passing plan_alpha st.rack st.streams
-    → Added (StreamsListed st st.streams) answers lines₁ → Added (LinesListed st 1 st.rack.lines) lines₁ lines₂ → Finishes lines stage' at left room lines₂
-finishes lines stage stage' at left room answers lines₁ lines₂ st same ends sound passing streams ports =
+    → Added (NetworkListed st) answers lines' → Finishes lines stage' at left room lines'
+finishes lines stage stage' at left room answers lines' st same ends sound passing figures =
     record {
       answers = answers;
-      figures = streams.0 ++ ports.0;
+      figures = figures.0;
       st = st;
       reads = λ file reached. ends.reads file (subst (λ s. Reaches room file lines s at left) (sym same) reached);
-      listed = record { of_streams = streams.0; of_lines = ports.0; streams_listed = streams.1; lines_listed = ports.1; in_order = refl };
+      listed = figures.1;
       promised = promised plan_alpha st sound passing;
-      whole = ports.2 ∙ ap (λ ls. ls ++ ports.0) streams.2 ∙ append_assoc answers streams.0 ports.0;
+      whole = figures.2;
     }
 
 -- what follows the version byte is shorter than the longest file

@@ -1,5 +1,5 @@
 -- The records of a plan file, carried out one after the other, and the line that each gives.
-use Rattle.std.specs.Prelude.{◌≡◌, ℕ, ◌+◌, true, false, List, [], ◌∷◌, length, Some, None, Ok, Err, Option, Result}
+use Rattle.std.specs.Prelude.{◌≡◌, ℕ, ◌+◌, true, false, List, [], ◌∷◌, length, None, Ok, Err, Option, Result}
 use Rattle.listing.specs.declared.entries.Entry.{Entry}
 use Rattle.listing.specs.declared.entries.Entry.TheVariants.{Done}
 use Rattle.records.specs.States.{State}

@@ -1,11 +1,11 @@
-use Rattle.std.proofs.Common.{min, length, ap, subst, arith, length-append}
+use Rattle.std.proofs.Common.{min, length, ap, subst, arith}
 use Rattle.std.proofs.lemmas.Result.{err_from_is_err_and}
 use Rattle.figures.specs.Limits.{most_streams}
 use Rattle.figures.proofs.TableFacts.{few}
 use Rattle.records.specs.Records.{state_of, table}
 use Rattle.planfile.specs.Points.{Stops, noted}
 use Rattle.planfile.specs.Stages.{networked}
-use Rattle.planfile.proofs.Whole.{finishes, streams_length}
+use Rattle.planfile.proofs.Whole.{finishes}
 use Rattle.planfile.proofs.plans.finish.Goals as goal
 
 pub returns-in_err-run : goal.returns-in_err-run
@@ -17,31 +17,13 @@ returns-in_err-run c =
     (subst (λ st. Stops (noted c.args.journal.now) (networked st) w.at w.rest.now room (noted c.run.new.journal) c.in_err-run.field-0.0)
     c.close-network.ensures.state (c.in_err-run.ensures.read room))
 
-pub list_streams-requires : goal.list_streams-requires
-list_streams-requires c =
+pub list_figures-requires : goal.list_figures-requires
+list_figures-requires c =
     let net = c.run.new.network in
     let ends = c.in_ok-run.ensures.read 0 in
     record {
       passing = c.in_ok-run.ensures.passing c.close-network.ensures.passing;
       few = omega (arith, ends.few, few net.records.rack (table net.records) net.kept);
-    }
-
-pub list_lines-requires : goal.list_lines-requires
-list_lines-requires c =
-    let net = c.run.new.network in
-    let ends = c.in_ok-run.ensures.read 0 in
-    let added = c.list_streams.ensures in
-    record {
-      passing = c.in_ok-run.ensures.passing c.close-network.ensures.passing;
-      few =
-          omega (
-            arith,
-            ends.few,
-            few net.records.rack (table net.records) net.kept,
-            ap length added.2,
-            length-append (noted c.run.new.journal) added.0,
-            streams_length (state_of net.records) added.1,
-          );
     }
 
 pub returns : goal.returns
@@ -50,7 +32,7 @@ returns c =
     let net = c.run.new.network in
     let room = min most_streams (length c.args.memory.now) in
     finishes (noted c.args.journal.now) (networked (state_of c.close-network.result.records)) (networked _) w.at w.rest.now room
-    (noted c.run.new.journal) (noted c.list_streams.new.journal) (noted c.list_lines.new.journal) (state_of net.records)
+    (noted c.run.new.journal) (noted c.list_figures.new.journal) (state_of net.records)
     (ap networked c.close-network.ensures.state) (c.in_ok-run.ensures.read room)
     (record { kept = net.kept; differ = net.differ; sixteen = net.sixteen; fields = net.fields })
-    (c.in_ok-run.ensures.passing c.close-network.ensures.passing) c.list_streams.ensures c.list_lines.ensures
+    (c.in_ok-run.ensures.passing c.close-network.ensures.passing) c.list_figures.ensures

@@ -1,4 +1,4 @@
-use Rattle.std.proofs.Common.{min, length, subst}
+use Rattle.std.proofs.Common.{min, length}
 use Rattle.std.proofs.lemmas.Option.{MatchOption-at_none, MatchOption-at_some}
 use Rattle.std.proofs.lemmas.Result.{err_from_is_err_and}
 use Rattle.figures.specs.Limits.{most_streams}

@@ -1,11 +1,11 @@
-use Rattle.std.proofs.Common.{◌<◌, length, sym, ◌∙◌, subst, arith}
+use Rattle.std.proofs.Common.{arith}
 use Rattle.std.proofs.lemmas.Option.{MatchOption-at_none, MatchOption-at_some}
 use Rattle.std.proofs.lemmas.Result.{err_from_is_err_and}
 use Rattle.records.specs.Records.{state_of}
 use Rattle.wire.specs.Walks.{Ended, Met}
-use Rattle.planfile.specs.Points.{Took, noted}
+use Rattle.planfile.specs.Points.{noted}
 use Rattle.planfile.specs.Stages.{networked}
-use Rattle.planfile.proofs.Reached.{cut_stops, end_ends, fitting_on, leads_on, met_length, took_long, took_stops}
+use Rattle.planfile.proofs.Reached.{cut_stops, end_ends, fitting_on, leads_on, met_length, took_stops}
 use Rattle.planfile.proofs.readers.run.Goals as goal
 
 pub returns-in_err-record : goal.returns-in_err-record

@@ -1,5 +1,5 @@
-use Rattle.std.proofs.Common.{◌≡◌, ◌+◌, ◌-◌, ◌≤◌, length, take}
-use Rattle.records.specs.Records.{state_of, table}
+use Rattle.std.proofs.Common.{◌+◌, ◌-◌, ◌≤◌, length, take}
+use Rattle.records.specs.Records.{state_of}
 use Rattle.planfile.specs.Figures.{LinesListed}
 use Rattle.planfile.specs.Points.{Added, noted}
 use Rattle.planfile.proofs.told.list_lines.Given as goal
