@@ -84,7 +84,7 @@ mod tests {
         assert_eq!(rt; write_listing(&entries, &mut out), Ok(53));
         assert_eq!(rt;
             &out[0..],
-            b"at 19 no 28 10\nat 4294967295 no 255 65535\nstop 100 3\n-------"
+            b"at 19 no 28 10\nat 4294967295 no 255 65535\nstop 100 3\n-------".as_slice()
         );
     }
 }

@@ -96,7 +96,10 @@ mod tests {
         let Some(withdrawal) = walker.next()? else {
             return Err(Fail::new("no withdrawal"));
         };
-        assert_eq!(rt; (withdrawal.at, withdrawal.bytes), (8, &[5, 0, 10]));
+        assert_eq!(rt;
+            (withdrawal.at, withdrawal.bytes),
+            (8, [5, 0, 10].as_slice())
+        );
         match walker.next() {
             Err(FileFault::CutShort(at)) => {
                 assert_eq!(rt; at, 13);
