@@ -9,7 +9,7 @@ use crate::arrivals::{Arrival, LONGEST_WINDOW};
 use crate::faults::KindFault;
 
 // Plain numbers: any that break the limits mean the bucket of one cell in each tick.
-#[derive(Clone, Copy)]
+#[derive(Clone, Copy, PartialEq, Eq, Debug)]
 pub struct Bucket {
     pub burst: u32,
     pub interval: u32,

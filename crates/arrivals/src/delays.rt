@@ -8,7 +8,7 @@ ghost use Rattle.arrivals.specs.Quotients.{windowed_rises};
 use crate::arrivals::Arrival;
 
 // What arrives by `kind`, each cell late by at most `by` ticks.
-#[derive(Clone, Copy)]
+#[derive(Clone, Copy, PartialEq, Eq, Debug)]
 pub struct Delayed<K> {
     pub kind: K,
     pub by: u32,

@@ -9,7 +9,7 @@ use crate::arrivals::{Arrival, LONGEST_WINDOW};
 use crate::faults::KindFault;
 
 // Plain numbers: any that break the limits mean the message of one cell in each tick.
-#[derive(Clone, Copy)]
+#[derive(Clone, Copy, PartialEq, Eq, Debug)]
 pub struct Message {
     pub period: u32,
     pub jitter: u32,

@@ -14,7 +14,7 @@ pub struct Delays {
 }
 
 // The figures of one stream.
-#[derive(Clone, Copy)]
+#[derive(Clone, Copy, PartialEq, Eq, Debug)]
 pub struct StreamFigures {
     pub q1: u32,
     pub q2: u32,

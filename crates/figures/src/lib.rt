@@ -15,6 +15,7 @@ mod worked;
 pub use delays::{Delays, Figures, StreamFigures};
 pub use faults::FigureFault;
 pub use groups::MOST_STREAMS;
+pub use ports::HORIZON;
 pub use racks::{Hub, Line, Rack, Side};
 pub use streams::Stream;
 pub use tables::Table;

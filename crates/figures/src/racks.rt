@@ -5,13 +5,13 @@ ghost use Rattle.figures.specs.Limits.{longest_switch, longest_propagation};
 ghost use Rattle.figures.specs.Racks.{line_at, is_inbound, is_outbound, cell_time, sending, spread, hub_kept, line_kept, lines_kept, rack_kept};
 
 // The hub passes a cell on after `least` to `most` ticks.
-#[derive(Clone, Copy)]
+#[derive(Clone, Copy, PartialEq, Eq, Debug)]
 pub struct Hub {
     pub least: u32,
     pub most: u32,
 }
 
-#[derive(Clone, Copy)]
+#[derive(Clone, Copy, PartialEq, Eq, Debug)]
 pub enum Side {
     // From a probe to the hub.
     Inbound,
@@ -21,7 +21,7 @@ pub enum Side {
 
 // A line sends a cell in `cell_time` ticks, and it takes `propagation` ticks more to the line's end.
 // The port that it begins at has `places` for cells of streams.
-#[derive(Clone, Copy)]
+#[derive(Clone, Copy, PartialEq, Eq, Debug)]
 pub struct Line {
     pub side: Side,
     pub cell_time: u32,

@@ -2,7 +2,7 @@
 
 // A stream takes the line `inbound` to the hub, and the line `outbound` to its host.
 // The larger priority is the more urgent.
-#[derive(Clone, Copy)]
+#[derive(Clone, Copy, PartialEq, Eq, Debug)]
 pub struct Stream<K> {
     pub number: u16,
     pub priority: u8,
