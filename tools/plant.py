@@ -10,7 +10,7 @@ LIST has one bug a block, blocks apart by an empty line:
     new: cells * gap >= period
     note: optional
 `old` stands once in the file; `\\n` in old and new is a line break. Each bug is planted in a copy
-of the repository, and the crate is checked there by `rt dev`. A row is printed for each: whether it
+of the repository, and the crate is checked there by `rt check`. A row is printed for each: whether it
 was refused, and by what (the first line of the check that is no progress report). Work in the
 repository goes on meanwhile; the copies lie in a temporary folder.
 """
@@ -54,7 +54,7 @@ def main():
     top = subprocess.run(["git", "rev-parse", "--show-toplevel"], capture_output=True, text=True, check=True).stdout.strip()
     with tempfile.TemporaryDirectory() as work:
         copy = os.path.join(work, "copy")
-        shutil.copytree(top, copy, ignore=shutil.ignore_patterns(".git", "must-fail", "log"), symlinks=True)
+        shutil.copytree(top, copy, ignore=shutil.ignore_patterns(".git", "must-fail", "out"), symlinks=True)
         refused = 0
         count = 0
         for bug in blocks(sys.argv[1]):
@@ -70,7 +70,8 @@ def main():
                 continue
             with open(path, "w", encoding="utf-8") as f:
                 f.write(text.replace(old, new))
-            run = subprocess.run(["rt", "dev", bug["crate"]], cwd=copy, capture_output=True, text=True, env={**os.environ, "RT_JOBS": "1"})
+            crate = os.path.join(copy, "crates", bug["crate"])
+            run = subprocess.run(["rt", "check", "--jobs", "1"], cwd=crate, capture_output=True, text=True)
             with open(path, "w", encoding="utf-8") as f:
                 f.write(text)
             count += 1
