@@ -7,7 +7,7 @@ use Rattle.figures.specs.Racks.{numbers, line_at, places_of, is_inbound, is_outb
 use Rattle.figures.specs.Tables.{◌∈◌, Distinct, table_kept, total, Delays, Needs, Passing}
 use Rattle.runs.specs.Run.{Run, probe_port, hub_port, held, way, Keeps}
 
--- in the run r no cell is longer on its way than `longest-way` of its stream, and no port holds more cells at any tick
+-- in the run r no cell is longer on its way than `longest_way` of its stream, and no port holds more cells at any tick
 -- than `room` of its line
 pub record Kept {K : Type 0} (rack : Rack) (r : Run K) (longest_way : Stream K → ℕ) (room : ℕ → ℕ) : Type 0 where
   pub in_time : (k : ℕ) → k < r.cells → (r.cell k).queued < r.end → way rack r k ≤ longest_way (r.cell k).stream

@@ -58,9 +58,9 @@ abbrev pub Apart : ℕ → ℕ → ℕ → Type 0
 Apart C a b = (a + C ≤ b) ⊎ (b + C ≤ a)
 
 -- The port's line carries one cell at a time, be they of streams (alone), of a stream and unreserved (apart), or
--- unreserved (dumps-apart). The line does not rest while a cell of a stream waits (works). Of those that wait, the cell
+-- unreserved (dumps_apart). The line does not rest while a cell of a stream waits (works). Of those that wait, the cell
 -- that starts has the largest priority (highest), and of its stream it was queued first (oldest). An unreserved cell
--- starts only where no cell of a stream waits (others-last).
+-- starts only where no cell of a stream waits (others_last).
 pub record Serves {K : Type 0} (p : Port K) : Type 0 where
   pub alone : (k z : ℕ) → At p k → At p z → p.start k < p.end → p.start z < p.end
       → (k ≡ z) ⊎ Apart p.cell (p.start k) (p.start z)
@@ -122,9 +122,9 @@ brought r s t w =
     (λ k. (r.cell k).queued) t (t + w)
 
 -- The rules of a run: its cells are of the table's streams (known), and in no window more of a stream are queued than
--- its kind allows (bounded); no cell is sent or leaves before it is queued (sent-after, left_after); from its start at
--- the probe port to its hub port a cell takes the line's time and a switch time (moved-after, moved_by); and each port
--- serves its cells as it must (at-probes, at-hubs).
+-- its kind allows (bounded); no cell is sent or leaves before it is queued (sent_after, left_after); from its start at
+-- the probe port to its hub port a cell takes the line's time and a switch time (moved_after, moved_by); and each port
+-- serves its cells as it must (at_probes, at_hubs).
 pub record Keeps {K : Type 0} (α : K → ℕ → ℕ) (rack : Rack) (table : List (Stream K)) (r : Run K) : Type 0 where
   pub known : (k : ℕ) → k < r.cells → (r.cell k).stream ∈ table
   pub bounded : (s : Stream K) → s ∈ table → (t w : ℕ) → 1 ≤ w → w ≤ longest → brought r s t w ≤ α s.kind w

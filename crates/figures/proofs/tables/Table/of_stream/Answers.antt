@@ -1,5 +1,5 @@
 use Rattle.std.proofs.Common.{refl, arith}
-use Rattle.figures.proofs.RackLimits.{hub_high}
+use Rattle.figures.proofs.RackLimits.{hub_high, hub_ordered}
 use Rattle.figures.proofs.TableFacts.{rack_is_kept}
 use Rattle.figures.proofs.Totals.{total_told}
 use Rattle.figures.proofs.tables.Table.of_stream.Goals as goal
@@ -7,13 +7,17 @@ use Rattle.figures.proofs.tables.Table.of_stream.Goals as goal
 pub overflow_add-result : goal.overflow_add-result
 overflow_add-result g c =
     let table = c.args.self.now in
-    let high = hub_high table.rack.now (rack_is_kept table.rack.now table.streams.now table.kept) in
+    let kept = rack_is_kept table.rack.now table.streams.now table.kept in
+    let high = hub_high table.rack.now kept in
+    let ordered = hub_ordered table.rack.now kept in
     omega (arith, c.args.delays.now.near c.args.place, c.sending.ensures.small)
 
 pub overflow_add-result-2 : goal.overflow_add-result-2
 overflow_add-result-2 g c =
     let table = c.args.self.now in
-    let high = hub_high table.rack.now (rack_is_kept table.rack.now table.streams.now table.kept) in
+    let kept = rack_is_kept table.rack.now table.streams.now table.kept in
+    let high = hub_high table.rack.now kept in
+    let ordered = hub_ordered table.rack.now kept in
     omega (arith, c.args.delays.now.near c.args.place, c.args.delays.now.near_too c.args.place, c.sending.ensures.small, c.sending-2.ensures.small)
 
 pub overflow_add-first : goal.overflow_add-first
