@@ -1,3 +1,5 @@
+pub mod Limits
+pub mod Fields
 pub mod Faults
 pub mod Checks
 pub mod Unique

@@ -27,10 +27,11 @@ use Rattle.admission.specs.declared.faults.TableFault.TheVariants.{Figure}
 use Rattle.admission.proofs.Parts as parts
 use Rattle.admission.proofs.Uniquely.{need_one, one_verdict}
 use Rattle.records.specs.declared.lines.LineFigures.{LineFigures}
-use Rattle.records.specs.Limits.{last_line, last_stream}
+use Rattle.admission.specs.Limits.{last_line, last_stream}
 use Rattle.records.specs.Lists.{number_at}
 use Rattle.records.specs.Sound.{Sound}
-use Rattle.records.specs.States.{LineAnswer, LineAsked, LineFigured, State, StreamAnswer, StreamAsked, StreamFigured, all_within, fields_within, is_there, unknown_line, unknown_stream, within}
+use Rattle.admission.specs.Fields.{fields_within, within}
+use Rattle.records.specs.States.{LineAnswer, LineAsked, LineFigured, State, StreamAnswer, StreamAsked, StreamFigured, all_within, is_there, unknown_line, unknown_stream}
 use Rattle.records.proofs.Differ.{differ_distinct}
 use Rattle.records.proofs.Fronts.{front_ends, front_on, stop}
 

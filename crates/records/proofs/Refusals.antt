@@ -9,10 +9,11 @@ use Rattle.figures.specs.declared.streams.Stream.{Stream}
 use Rattle.figures.specs.Limits.{most_streams}
 use Rattle.figures.specs.Racks.{is_inbound, is_outbound, line_at}
 use Rattle.admission.specs.declared.faults.TableFault.{TableFault}
-use Rattle.records.specs.Limits.{last_line, last_priority, last_stream, most_places}
+use Rattle.admission.specs.Limits.{last_line, last_priority, last_stream, most_places}
 use Rattle.records.specs.Lists.{filed, number_at, place, priority_at, withdrawn}
 use Rattle.records.specs.Sound.{Sound}
-use Rattle.records.specs.States.{State, all_within, fields_within, is_there, places_set, refused_unless, unfiled, unknown_line, unknown_stream, unplaced, with_places, within}
+use Rattle.admission.specs.Fields.{fields_within, within}
+use Rattle.records.specs.States.{State, all_within, is_there, places_set, refused_unless, unfiled, unknown_line, unknown_stream, unplaced, with_places}
 use Rattle.records.proofs.Filed.{filed_differ, filed_kept}
 use Rattle.records.proofs.OtherPlaces.{Alike, bare, places_kept, set_alike}
 use Rattle.records.proofs.Withdrawn.{withdrawn_differ, withdrawn_kept}

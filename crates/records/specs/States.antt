@@ -15,7 +15,8 @@ use Rattle.admission.specs.declared.faults.TableFault.{TableFault}
 use Rattle.admission.specs.declared.faults.TableFault.TheVariants.{OutsideLimits, LineTaken, NoLine, StreamTaken, PriorityTaken, TableFull, NoStream, Figure}
 use Rattle.admission.specs.Checks.{CheckTold}
 use Rattle.records.specs.declared.lines.LineFigures.{LineFigures}
-use Rattle.records.specs.Limits.{last_stream, last_priority, last_line, latest_deadline, most_places}
+use Rattle.admission.specs.Fields.{fields_within, within}
+use Rattle.admission.specs.Limits.{last_stream, last_line, most_places}
 use Rattle.records.specs.Lists.{number_at, priority_at, filed, withdrawn}
 
 -- the rack, the table of its streams, and how many the table has room for
@@ -23,14 +24,6 @@ pub record State (K : Type 0) : Type 0 where
   pub rack : Rack
   pub streams : List (Stream K)
   pub room : ℕ
-
-abbrev pub within : ℕ → ℕ → ℕ → Bool
-within low n high = nat_le low n && nat_le n high
-
--- each field of the stream keeps its limits
-abbrev pub fields_within : {K : Type 0} → Stream K → Bool
-fields_within s =
-    within 1 s.number last_stream && (within 1 s.priority last_priority && (within 1 s.inbound last_line && (within 1 s.outbound last_line && within 1 s.deadline latest_deadline)))
 
 abbrev pub all_within : {K : Type 0} → List (Stream K) → Bool
 all_within [] = true

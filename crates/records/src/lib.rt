@@ -1,11 +1,10 @@
 // The records of a network: the rack, and the table in the memory that the caller lends, with what each call does to them.
 #![tactic(auto)]
 
-mod limits;
 mod lines;
 mod records;
 mod slices;
 
-pub use limits::{LAST_LINE, MOST_PLACES};
+pub use admission::{LAST_LINE, MOST_PLACES};
 pub use lines::LineFigures;
 pub use records::Records;

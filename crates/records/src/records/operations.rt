@@ -4,33 +4,17 @@ ghost use Rattle.std.specs.List.{insert};
 ghost use Rattle.figures.specs.Racks.{line_at};
 ghost use Rattle.figures.specs.Tables.{table_kept, Distinct};
 ghost use Rattle.admission.specs.Checks.{CheckTold};
-ghost use Rattle.records.specs.Limits.{last_line};
+ghost use Rattle.admission.specs.Limits.{last_line};
 ghost use Rattle.records.specs.Lists.{place, filed};
 ghost use Rattle.records.specs.Records.{table, state_of, Lawful};
-ghost use Rattle.records.specs.States.{fields_within, unfiled, if_passed, Requested, Withdrawn, Found, MemoryLeft, unknown_line, places_set, PlacesSet, StreamAnswer, LineAnswer};
+ghost use Rattle.records.specs.States.{unfiled, if_passed, Requested, Withdrawn, Found, MemoryLeft, unknown_line, places_set, PlacesSet, StreamAnswer, LineAnswer};
 
 use super::Records;
-use crate::limits::{LAST_LINE, LAST_STREAM, LATEST_DEADLINE, MOST_PLACES};
 use crate::lines::LineFigures;
 use crate::slices::{find_number, find_priority, insert_at, place_of, remove_at};
-use admission::{TableFault, check};
+use admission::{LAST_LINE, LAST_STREAM, MOST_PLACES, TableFault, check, has_fields_within};
 use arrivals::Arrival;
 use figures::{Line, MOST_STREAMS, Rack, Stream, StreamFigures, Table};
-
-// Whether each field of the stream keeps its limits.
-fn has_fields_within<K>(stream: &Stream<K>) -> bool
-    ensures { result ≡ fields_within stream.now }
-{
-    1 <= stream.number
-        && stream.number <= LAST_STREAM
-        && 1 <= stream.priority
-        && 1 <= stream.inbound
-        && stream.inbound <= LAST_LINE
-        && 1 <= stream.outbound
-        && stream.outbound <= LAST_LINE
-        && 1 <= stream.deadline
-        && stream.deadline <= LATEST_DEADLINE
-}
 
 // The check of the first `n` records.
 fn check_front<'a, K: Arrival>(

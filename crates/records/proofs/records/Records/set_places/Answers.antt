@@ -4,9 +4,10 @@ use Rattle.std.proofs.lemmas.Bool.Decides.{nat_tests}
 use Rattle.figures.specs.declared.racks.Rack.{Rack}
 use Rattle.figures.specs.declared.streams.Stream.{Stream}
 use Rattle.figures.specs.Racks.{line_at}
-use Rattle.records.specs.Limits.{last_line, most_places}
+use Rattle.admission.specs.Limits.{last_line, most_places}
 use Rattle.records.specs.Sound.{Sound}
-use Rattle.records.specs.States.{State, within, is_there, unplaced, unknown_line, places_set}
+use Rattle.admission.specs.Fields.{within}
+use Rattle.records.specs.States.{State, is_there, unplaced, unknown_line, places_set}
 use Rattle.records.proofs.Refusals.{unknown_line_none, placed_sound}
 use Rattle.records.proofs.Requests.{state}
 use Rattle.records.proofs.records.Records.set_places.Goals as goal
