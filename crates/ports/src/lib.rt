@@ -3,8 +3,9 @@
 
 mod loads;
 mod needs;
+mod ports;
 mod waits;
 
 pub use loads::Load;
-pub use needs::port_need;
-pub use waits::{HORIZON, port_delay};
+pub use ports::Port;
+pub use waits::HORIZON;

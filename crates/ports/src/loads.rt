@@ -1,6 +1,7 @@
 // What comes to a port in a window of ticks.
 ghost use Rattle.std.specs.Prelude.{◌≡◌, ℕ, min};
 ghost use Rattle.arrivals.specs.Limits.{longest};
+ghost use Rattle.ports.specs.Loads.{Rising};
 
 pub trait Load {
     // The most cells that come in any `w` successive ticks.
@@ -9,4 +10,6 @@ pub trait Load {
     // The load at `window`, or at the longest window where that is shorter.
     fn at(&self, window: u32) -> u32
         ensures { result ≡ load self.now (min window longest) };
+
+    ghost rises: { (l : Self) → Rising (load l) };
 }

@@ -12,6 +12,6 @@ loop-low-preserved g c =
       λ d queued.
           elim (cases_lt mid d) [
             | inl later ↦ omega arith
-            | inr no-later ↦ omega (arith, c.requires.rising (d + 1) (min (mid + 1) longest) (omega arith) (omega arith))
+            | inr no-later ↦ omega (arith, g.met.L.Load.rises c.args.own.now (d + 1) (min (mid + 1) longest) (omega arith) (omega arith))
           ],
     )
