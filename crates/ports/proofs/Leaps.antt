@@ -1,5 +1,5 @@
 -- The least fixed point of a function that never falls, by steps from below.
-use Rattle.std.proofs.Common.{◌≡◌, ℕ, zero, suc, ◌+◌, ◌-◌, ◌*◌, ◌<◌, ◌≤◌, min, Some, ap, ◌∙◌, inl, inr, add-mul, mul-le-mul_left, one-mul, mul-one, arith}
+use Rattle.std.proofs.Common.{◌≡◌, ℕ, zero, suc, ◌+◌, ◌-◌, ◌*◌, ◌<◌, ◌≤◌, min, None, ap, ◌∙◌, inl, inr, add-mul, mul-le-mul_left, one-mul, mul-one, arith}
 use Rattle.std.proofs.lemmas.Bool.{cases_lt}
 use Rattle.arrivals.specs.Limits.{longest}
 use Rattle.ports.specs.Limits.{horizon}
@@ -42,8 +42,9 @@ ahead_is C β k w r h e =
 pub index_le : (C : ℕ) (β : ℕ → ℕ) (k w : ℕ) → 1 ≤ C → Starts C β k w → k ≤ w
 index_le C β k w pos e = omega (arith, mul-le-mul_left {m = 1} {n = C} k pos, mul-one k)
 
-pub wait_near : (C : ℕ) (β : ℕ → ℕ) (k w : ℕ) → 1 ≤ C → Wait C β k (Some w) → k ≤ horizon
-wait_near C β k w pos wait = omega (arith, wait.0, index_le C β k w pos wait.1.has)
+-- so that no cell beyond the horizon has a wait
+pub no_wait : (C : ℕ) (β : ℕ → ℕ) (k : ℕ) → 1 ≤ C → horizon < k → Wait C β k None
+no_wait C β k pos far w near starts = absurd (omega (arith, index_le C β k w pos starts))
 
 -- and the next cell has a cell time more before it
 pub ahead_more : (C : ℕ) (β : ℕ → ℕ) (k w : ℕ) → ahead C β (k + 1) w ≡ ahead C β k w + C

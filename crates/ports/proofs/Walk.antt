@@ -45,7 +45,13 @@ pub record Walk (C : ℕ) (α β : ℕ → ℕ) (k d from e : ℕ) : Type 0 wher
   pub most : (j : ℕ) → j < k → wait j - early j ≤ d
   pub met : (d ≡ 0) ⊎ ((j : ℕ) × (j < k) × (wait j - early j ≡ d))
 
-module _ (C : ℕ) (α β : ℕ → ℕ) (some : 1 ≤ α 1) (rising : Rising α) (ordered : Rising β) where
+-- a later cell waits as long at least
+waits_rise : (C : ℕ) (β : ℕ → ℕ) → Rising β → (k w v : ℕ) → Wait C β k (Some w) → v ≤ horizon → Starts C β (k + 1) v → w ≤ v
+waits_rise C β ordered k w v p near starts =
+    let u = fixed_under (ahead C β k) horizon (ahead_rises_near C β ordered k) v v (omega arith) near (omega (arith, ahead_more C β k v)) in
+    omega (arith, p.1.first u.0 u.2, u.1)
+
+module _ {C : ℕ} {α β : ℕ → ℕ} (some : 1 ≤ α 1) (rising : Rising α) (ordered : Rising β) where
   pub walk_none : Walk C α β 0 0 (C - 1) 0
   walk_none = record {
     wait = λ _. 0;
@@ -60,13 +66,7 @@ module _ (C : ℕ) (α β : ℕ → ℕ) (some : 1 ≤ α 1) (rising : Rising α
     met = inl refl;
   }
 
-  -- a later cell waits as long at least
-  waits_rise : (k w v : ℕ) → Wait C β k (Some w) → v ≤ horizon → Starts C β (k + 1) v → w ≤ v
-  waits_rise k w v p near starts =
-      let u = fixed_under (ahead C β k) horizon (ahead_rises_near C β ordered k) v v (omega arith) near (omega (arith, ahead_more C β k v)) in
-      omega (arith, p.1.first u.0 u.2, u.1)
-
-  module _ (k d from e₀ w e : ℕ) (walk : Walk C α β k d from e₀) (waits : Wait C β k (Some w)) (comes : Least (Queued α k) e) where
+  module _ {k d from e₀ w e : ℕ} (walk : Walk C α β k d from e₀) (waits : Wait C β k (Some w)) (comes : Least (Queued α k) e) where
     all_waits : (j : ℕ) → j ≤ k → Wait C β j (Some (put walk.wait k w j))
     all_waits = puts (λ j x y. Wait C β j (Some x)) walk.wait walk.early k w e waits walk.waits
 
@@ -95,7 +95,7 @@ module _ (C : ℕ) (α β : ℕ → ℕ) (some : 1 ≤ α 1) (rising : Rising α
 
     below_here : Below (ahead C β (k + 1)) horizon w
     below_here = record {
-      none_before = λ v le fixed. waits_rise k w v waits le fixed;
+      none_before = λ v le fixed. waits_rise C β ordered k w v waits le fixed;
       steps_up = λ le. omega (arith, ahead_more C β k w, waits.1.has);
     }
 
@@ -108,7 +108,7 @@ module _ (C : ℕ) (α β : ℕ → ℕ) (some : 1 ≤ α 1) (rising : Rising α
       goes_on = λ j h. puts (λ j x y. j + 1 < α (x + 1)) walk.wait walk.early k w e more walk.goes_on j (omega arith);
       below = below_step (ahead C β (k + 1)) horizon (ahead_rises_near C β ordered (k + 1)) w (w + C) waits.0 (omega (arith, ahead_more C β k w, waits.1.has)) below_here;
       reach = λ v p.
-          omega (arith, rising (w + 1) (v + 1) (omega (arith, waits_rise k w v waits p.0 p.1.has)) (omega (arith, p.0)));
+          omega (arith, rising (w + 1) (v + 1) (omega (arith, waits_rise C β ordered k w v waits p.0 p.1.has)) (omega (arith, p.0)));
       after = λ t q. comes.first t (omega (arith, q));
       most = λ j h. all_most j (omega arith);
       met = inr (met_more.0, omega (arith, met_more.1), met_more.2);
@@ -141,8 +141,8 @@ module _ (C : ℕ) (α β : ℕ → ℕ) (some : 1 ≤ α 1) (rising : Rising α
       };
     }
 
-  pub walk_endless : (k d from e : ℕ) → Walk C α β k d from e → Wait C β k None → NoDelay C α β
-  walk_endless k d from e walk none = record {
+  pub walk_endless : {k d from e : ℕ} → Walk C α β k d from e → Wait C β k None → NoDelay C α β
+  walk_endless {k} walk none = record {
     wait = walk.wait;
     cell = k;
     waits = walk.waits;

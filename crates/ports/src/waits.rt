@@ -57,16 +57,16 @@ impl<L: Load> Port<L> {
         ensures { PortDelay self.now.cell_time (A.Load.load own.now) (L.Load.load self.now.load) result }
     {
         let mut worst: u32 = 0;
-        let mut index = 0;
         let mut from = self.cell_time - 1;
         let mut early = 0;
-        while let Some(w) = self.wait(index, from) {
+        // the cell k waits for k ticks at least, so that none beyond the horizon has a wait
+        for index in 0..=HORIZON {
+            let w = self.wait(index, from)?;
             early = earliest(own, index, early, w);
             worst = worst.max(w - early);
             if own.at(w + 1) <= index + 1 {
                 return Some(worst);
             }
-            index += 1;
             from = w + self.cell_time;
         }
         None

@@ -1,4 +1,4 @@
-use Rattle.std.proofs.Common.{◌≡◌, ℕ, ◌≤◌, ◌+◌, ◌-◌, ◌*◌, ◌/◌, ◌<◌, min, ap, subst, sym, arith}
+use Rattle.std.proofs.Common.{◌≡◌, ◌≤◌, ◌+◌, ◌-◌, ◌*◌, ◌/◌, ◌<◌, min, ap, subst, sym, arith}
 use Rattle.arrivals.specs.Limits.{longest}
 use Rattle.ports.specs.Port.{Clears}
 use Rattle.ports.proofs.Busy.{not_clear, clear_later}

@@ -1,55 +1,48 @@
-use Rattle.std.proofs.Common.{◌≡◌, ◌+◌, min, sym, subst, arith}
+use Rattle.std.proofs.Common.{◌≡◌, ℕ, ◌+◌, ◌≤◌, min, subst, arith}
 use Rattle.arrivals.specs.Limits.{longest}
-use Rattle.ports.specs.Port.{Delay}
-use Rattle.ports.proofs.Leaps.{wait_near}
-use Rattle.ports.proofs.Walk.{Walk, walk_none, walk_more, walk_ends, walk_endless}
+use Rattle.ports.specs.Limits.{horizon}
+use Rattle.ports.proofs.Leaps.{no_wait}
+use Rattle.ports.proofs.Walk.{walk_none, walk_more, walk_ends, walk_endless}
 use Rattle.ports.proofs.ports.Port.delay.Goals as goal
 
-pub loop-w-init : goal.loop-w-init
-loop-w-init g c =
-    walk_none c.args.self.now.cell_time (g.A.Load.load c.args.own.now) (g.L.Load.load c.args.self.now.load) c.requires (g.met.A.Load.rises c.args.own.now) (g.met.L.Load.rises c.args.self.now.load)
+-- what a load answers for the window w + 1 is its value there
+at_is : (f : ℕ → ℕ) (w r : ℕ) → w ≤ horizon → r ≡ f (min (w + 1) longest) → r ≡ f (w + 1)
+at_is f w r near e =
+    let m : min (w + 1) longest ≡ w + 1 = omega arith in
+    subst (λ x. r ≡ f x) m e
+
+pub loop-index-init : goal.loop-index-init
+loop-index-init g c = walk_none c.requires (g.met.A.Load.rises _) (g.met.L.Load.rises _)
 
 pub wait-requires : goal.wait-requires
-wait-requires g c = c.loop-w.invariant.below
+wait-requires g c = c.loop-index.invariant.below
+
+pub returns-in_err-w : goal.returns-in_err-w
+returns-in_err-w g c =
+    rw c.from_residual.ensures (walk_endless c.requires (g.met.A.Load.rises _) (g.met.L.Load.rises _) c.loop-index.invariant c.in_err-w.ensures)
 
 pub earliest-early-requires : goal.earliest-early-requires
 earliest-early-requires g c =
-    let s = c.in-Some.ensures in
-    record { near = s.0; queued = c.loop-w.invariant.reach _ s; after = c.loop-w.invariant.after }
+    let s = c.in_ok-w.ensures in
+    record { near = s.0; queued = c.loop-index.invariant.reach _ s; after = c.loop-index.invariant.after }
 
 pub overflow_sub-w : goal.overflow_sub-w
-overflow_sub-w g c = c.earliest-early.ensures.first _ (c.loop-w.invariant.reach _ c.in-Some.ensures)
-
-pub overflow_add-index : goal.overflow_add-index
-overflow_add-index g c =
-    omega (arith, wait_near c.args.self.now.cell_time (g.L.Load.load c.args.self.now.load) c.loop-w.index c.in-Some.w c.args.self.now.cell.0 c.in-Some.ensures)
-
-pub loop-w-smaller : goal.loop-w-smaller
-loop-w-smaller g c =
-    omega (arith, wait_near c.args.self.now.cell_time (g.L.Load.load c.args.self.now.load) c.loop-w.index c.in-Some.w c.args.self.now.cell.0 c.in-Some.ensures)
+overflow_sub-w g c = c.earliest-early.ensures.first _ (c.loop-index.invariant.reach _ c.in_ok-w.ensures)
 
 pub returns-then-at-index : goal.returns-then-at-index
 returns-then-at-index g c =
-    let α = g.A.Load.load c.args.own.now in
-    let β = g.L.Load.load c.args.self.now.load in
-    let w = c.in-Some.w in
-    let s = c.in-Some.ensures in
-    let m : min (w + 1) longest ≡ w + 1 = omega (arith, s.0) in
-    let n : c.at.result ≡ α (w + 1) = subst (λ x. c.at.result ≡ α x) m c.at.ensures in
-    subst (λ d. Delay c.args.self.now.cell_time α β d) (sym c.max-worst.ensures)
-    (walk_ends c.args.self.now.cell_time α β c.requires (g.met.A.Load.rises c.args.own.now) (g.met.L.Load.rises c.args.self.now.load) c.loop-w.index c.loop-w.worst c.loop-w.from c.loop-w.early w c.earliest-early.result c.loop-w.invariant s c.earliest-early.ensures (omega arith))
+    let s = c.in_ok-w.ensures in
+    let n : c.at.result ≡ g.A.Load.load c.args.own.now (c.in_ok-w.w + 1) = at_is (g.A.Load.load c.args.own.now) _ _ s.0 c.at.ensures in
+    rw c.max-worst.ensures
+    (walk_ends c.requires (g.met.A.Load.rises _) (g.met.L.Load.rises _) c.loop-index.invariant s c.earliest-early.ensures (omega arith))
 
-pub loop-w-preserved : goal.loop-w-preserved
-loop-w-preserved g c =
-    let α = g.A.Load.load c.args.own.now in
-    let β = g.L.Load.load c.args.self.now.load in
-    let w = c.in-Some.w in
-    let s = c.in-Some.ensures in
-    let m : min (w + 1) longest ≡ w + 1 = omega (arith, s.0) in
-    let n : c.at.result ≡ α (w + 1) = subst (λ x. c.at.result ≡ α x) m c.at.ensures in
-    subst (λ d. Walk c.args.self.now.cell_time α β (c.loop-w.index + 1) d (w + c.args.self.now.cell_time) c.earliest-early.result) (sym c.max-worst.ensures)
-    (walk_more c.args.self.now.cell_time α β c.requires (g.met.A.Load.rises c.args.own.now) (g.met.L.Load.rises c.args.self.now.load) c.loop-w.index c.loop-w.worst c.loop-w.from c.loop-w.early w c.earliest-early.result c.loop-w.invariant s c.earliest-early.ensures (omega arith))
+pub loop-index-preserved : goal.loop-index-preserved
+loop-index-preserved g c =
+    let s = c.in_ok-w.ensures in
+    let n : c.at.result ≡ g.A.Load.load c.args.own.now (c.in_ok-w.w + 1) = at_is (g.A.Load.load c.args.own.now) _ _ s.0 c.at.ensures in
+    rw c.max-worst.ensures
+    (walk_more c.requires (g.met.A.Load.rises _) (g.met.L.Load.rises _) c.loop-index.invariant s c.earliest-early.ensures (omega arith))
 
 pub returns : goal.returns
 returns g c =
-    walk_endless c.args.self.now.cell_time (g.A.Load.load c.args.own.now) (g.L.Load.load c.args.self.now.load) c.requires (g.met.A.Load.rises c.args.own.now) (g.met.L.Load.rises c.args.self.now.load) c.loop-w.index c.loop-w.worst c.loop-w.from c.loop-w.early c.loop-w.invariant c.in_default.ensures
+    walk_endless c.requires (g.met.A.Load.rises _) (g.met.L.Load.rises _) c.loop-index.invariant (no_wait c.args.self.now.cell_time (g.L.Load.load c.args.self.now.load) c.loop-index.index (omega arith) (omega arith))
