@@ -1,14 +1,11 @@
 pub mod Items
-pub mod GroupSums
 pub mod Transport
 pub mod Uniqueness
 pub mod Computed
 pub mod WorkedPlan
-pub mod RackLimits
 pub mod Hopwise
 pub mod TableFacts
 pub mod Totals
 pub mod HopScan
 pub mod ByPriority
-pub mod LineSums
 pub mod SideNeeds

@@ -7,3 +7,6 @@ pub mod Unique
 pub mod Worked
 pub mod Sums
 pub mod Hops
+pub mod RackLimits
+pub mod GroupSums
+pub mod LineSums

@@ -2,7 +2,7 @@
 ghost use Rattle.std.specs.Prelude.{ℕ, ◌≤◌, slice_index};
 ghost use Rattle.ports.specs.Limits.{horizon};
 
-use crate::groups::MOST_STREAMS;
+use crate::traffic::MOST_STREAMS;
 
 // q1 and q2 of the stream at each place of the table.
 #[derive(Clone, Copy)]

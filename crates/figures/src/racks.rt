@@ -117,7 +117,9 @@ impl Rack {
 
     // The cell time of the line `number`; 1 stands in where there is none.
     pub(crate) fn cell_time(&self, number: u8) -> u32
-        ensures { result ≡ cell_time self.now number }
+        requires { rack_kept self.now ≡ true }
+        ensures value { result ≡ cell_time self.now number }
+        ensures limits { (1 ≤ result) × (result ≤ longest_cell) }
     {
         match self.line(number) {
             Some(line) => line.cell_time,

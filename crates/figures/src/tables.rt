@@ -1,20 +1,20 @@
 // A table of streams in a rack, and its figures.
-ghost use Rattle.std.specs.Prelude.{◌≡◌, ℕ, ◌+◌, ◌<◌, ◌≤◌, true, false, length, Some, None, MatchOption, slice_index, slice_index_or};
+ghost use Rattle.std.specs.Prelude.{◌≡◌, ℕ, ◌+◌, ◌<◌, ◌≤◌, true, false, length, replicate, Some, None, MatchOption, slice_index, slice_index_or};
 ghost use Rattle.ports.specs.Limits.{horizon};
 ghost use Rattle.figures.specs.Limits.{most_streams};
 ghost use Rattle.figures.specs.Racks.{rack_kept, spread};
 ghost use Rattle.figures.specs.Tables.{falls_under, placed, all_placed, table_kept, ProbeNeed};
-ghost use Rattle.figures.specs.Told.{StreamToldFor, HopToldFor, Near, AllNear, DelaysTold, StreamTold, HubNeedFor, NeedToldFor, NeedsToldFor, FiguresTold};
+ghost use Rattle.figures.specs.Told.{DelaysTold, StreamTold, HubNeedFor, NeedToldFor, NeedsToldFor, FiguresTold};
 
 use crate::delays::{Delays, Figures, StreamFigures};
 use crate::faults::FigureFault;
-use crate::groups::{Group, Lateness, MOST_STREAMS};
+use crate::groups::Group;
 use crate::hops::Hop;
-use crate::loads::{GroupLoad, HubLoad, Source};
+use crate::loads::{GroupLoad, HubLoad};
 use crate::racks::{Rack, Side};
 use crate::streams::Stream;
+use crate::traffic::{MOST_STREAMS, Traffic};
 use arrivals::Arrival;
-use ports::{port_delay, port_need};
 
 // At most 64 streams in falling order of priority, on lines that are there, each on its side.
 #[derive(Drop)]
@@ -72,48 +72,44 @@ impl<'a, K: Arrival> Table<'a, K> {
         }
     }
 
-    // The delay of the stream at `place` of the table, at its port of this hop.
-    fn delay_at(&self, hop: Hop, late: &Lateness, place: usize) -> Option<u32>
-        requires { place < length self.now.streams.now }
-        ensures told { StreamToldFor K.Arrival.alpha self.now.rack.now self.now.streams.now hop late.now place result }
-        ensures near { Near result }
+    // The streams as they come to the probe ports.
+    fn punctual(&self) -> Traffic<'a, K>
+        ensures ours { (result.rack.now ≡ self.now.rack.now) × (result.streams.now ≡ self.now.streams.now) }
+        ensures punctual { result.late ≡ replicate 64 None }
     {
-        let stream = &self.streams[place];
-        let own = Source {
-            kind: &stream.kind,
-            late: late[place],
-        };
-        let higher = GroupLoad {
+        Traffic {
+            rack: self.rack,
             streams: self.streams,
-            late,
-            group: hop.above(stream),
-        };
-        port_delay(&own, &higher, self.rack.cell_time(hop.line(stream)))
+            late: [None; MOST_STREAMS],
+        }
     }
 
-    // The delays of all streams at their ports of this hop, in table order.
-    fn delays_at(&self, hop: Hop, late: &Lateness) -> Result<[u32; MOST_STREAMS], FigureFault>
-        ensures told { HopToldFor K.Arrival.alpha self.now.rack.now self.now.streams.now hop late.now result }
-        ensures near { AllNear result }
+    // The streams as they come to the hub ports, where they had these delays at the probe ports.
+    fn late(&self, q1: &[u32; MOST_STREAMS]) -> Traffic<'a, K>
+        requires { (i : ℕ) → slice_index q1.now i ≤ horizon }
+        ensures ours { (result.rack.now ≡ self.now.rack.now) × (result.streams.now ≡ self.now.streams.now) }
+        ensures late { (i : ℕ) → i < 64 → slice_index_or result.late i None ≡ Some (slice_index q1.now i + spread self.now.rack.now) }
     {
-        let mut delays: [u32; MOST_STREAMS] = [0; MOST_STREAMS];
-        for (place, stream) in self.streams.iter().enumerate() {
-            match self.delay_at(hop, late, place) {
-                Some(delay) => delays[place] = delay,
-                None => return Err(FigureFault::NoDelay(stream.number)),
-            }
+        let spread = self.rack.hub.most - self.rack.hub.least;
+        let mut late = [None; MOST_STREAMS];
+        for (place, delay) in q1.iter().enumerate() {
+            late[place] = Some(*delay + spread);
         }
-        Ok(delays)
+        Traffic {
+            rack: self.rack,
+            streams: self.streams,
+            late,
+        }
     }
 
     // q1 and q2 of all streams: all q1 in table order, then all q2.
     pub fn delays(&self) -> Result<Delays, FigureFault>
         ensures { DelaysTold K.Arrival.alpha self.now.rack.now self.now.streams.now result }
     {
-        let punctual: Lateness = [None; MOST_STREAMS];
-        let q1 = self.delays_at(Hop::Probe, &punctual)?;
-        let late = hub_lateness(self.rack, &q1);
-        let q2 = self.delays_at(Hop::Hub, &late)?;
+        let punctual = self.punctual();
+        let q1 = punctual.delays(Hop::Probe)?;
+        let late = self.late(&q1);
+        let q2 = late.delays(Hop::Hub)?;
         Ok(Delays { q1, q2 })
     }
 
@@ -139,26 +135,23 @@ impl<'a, K: Arrival> Table<'a, K> {
     fn probe_need(&self, number: u8) -> Option<u32>
         ensures { ProbeNeed K.Arrival.alpha self.now.rack.now self.now.streams.now number result }
     {
-        let punctual: Lateness = [None; MOST_STREAMS];
-        let all = GroupLoad {
-            streams: self.streams,
-            late: &punctual,
+        let traffic = self.punctual();
+        let load = GroupLoad {
+            traffic: &traffic,
             group: Group::From(number),
         };
-        port_need(&all, self.rack.cell_time(number))
+        traffic.port(number, load).need()
     }
 
     fn hub_need(&self, delays: &Delays, number: u8) -> Option<u32>
         ensures { HubNeedFor K.Arrival.alpha self.now.rack.now self.now.streams.now delays.now.q1 number result }
     {
-        let late = hub_lateness(self.rack, &delays.q1);
-        let all = HubLoad {
-            rack: self.rack,
-            streams: self.streams,
-            late: &late,
+        let traffic = self.late(&delays.q1);
+        let load = HubLoad {
+            traffic: &traffic,
             outbound: number,
         };
-        port_need(&all, self.rack.cell_time(number))
+        traffic.port(number, load).need()
     }
 
     // The need of the line `number`, by the delays of all streams; None where there is no such line.
@@ -197,18 +190,4 @@ impl<'a, K: Arrival> Table<'a, K> {
         let needs = self.needs(&delays)?;
         Ok(Figures { delays, needs })
     }
-}
-
-// By how much the cells of each stream come late at its hub port.
-fn hub_lateness(rack: &Rack, q1: &[u32; MOST_STREAMS]) -> Lateness
-    requires kept { rack_kept rack.now ≡ true }
-    requires near { (i : ℕ) → slice_index q1.now i ≤ horizon }
-    ensures { (i : ℕ) → i < 64 → slice_index_or result i None ≡ Some (slice_index q1.now i + spread rack.now) }
-{
-    let spread = rack.hub.most - rack.hub.least;
-    let mut late: Lateness = [None; MOST_STREAMS];
-    for (place, delay) in q1.iter().enumerate() {
-        late[place] = Some(*delay + spread);
-    }
-    late
 }

@@ -19,7 +19,7 @@ use Rattle.runs.specs.Run.{Port, At, other, Serves, probe_port, hub_port, brough
 use Rattle.runs.specs.Example.{line, rack, stream, table, run, Reached}
 use Rattle.runs.proofs.Line.{count_one}
 use Rattle.runs.proofs.Listed.{sums_le, sums_has}
-use Rattle.figures.proofs.GroupSums.{seen_some}
+use Rattle.figures.specs.GroupSums.{seen_some}
 use Rattle.runs.proofs.Withdrawn.{delayed_le}
 
 -- a port with one cell, which comes while the one unreserved cell is sent

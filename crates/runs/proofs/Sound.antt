@@ -8,7 +8,7 @@ use Rattle.figures.specs.declared.streams.Stream.{Stream}
 use Rattle.figures.specs.Limits.{longest_switch}
 use Rattle.figures.specs.Racks.{numbers, line_at, cell_time, spread, is_inbound, is_outbound}
 use Rattle.figures.specs.Tables.{◌∈◌, falls_under, placed, all_placed, table_kept}
-use Rattle.figures.proofs.RackLimits.{line_timed, hub_ordered, hub_high}
+use Rattle.figures.specs.RackLimits.{line_timed, hub_ordered, hub_high}
 use Rattle.figures.proofs.TableFacts.{rack_is_kept, falls, are_placed, all_under}
 use Rattle.runs.specs.Promise.{OnePlaceEach}
 

@@ -14,7 +14,7 @@ use Rattle.ports.specs.Port.{Need}
 use Rattle.figures.specs.Racks.{numbers, line_at, cell_time, spread, is_inbound, is_outbound}
 use Rattle.ports.specs.Loads.{Lawful}
 use Rattle.figures.specs.Tables.{◌∈◌, over, Distinct, falls_under, placed, all_placed, table_kept, hub_bound, probe_higher, hub_higher, FirstDelay, SecondDelay, probe_load, from_line, hub_load, Delays, Needs}
-use Rattle.figures.proofs.GroupSums.{seen_some}
+use Rattle.figures.specs.GroupSums.{seen_some}
 use Rattle.figures.proofs.TableFacts.{rack_is_kept, few, falls, are_placed}
 use Rattle.runs.specs.Count.{during}
 use Rattle.runs.specs.Run.{brought}

@@ -1,6 +1,6 @@
 use Rattle.std.proofs.Common.{sym, ap, ◌∙◌}
 use Rattle.figures.specs.Racks.{line_kept}
-use Rattle.figures.proofs.RackLimits.{lines_kept_more, lines_kept_fails, lines_kept_all}
+use Rattle.figures.specs.RackLimits.{lines_kept_more, lines_kept_fails, lines_kept_all}
 use Rattle.figures.proofs.racks.lines_are_kept.Goals as goal
 use Rattle.figures.proofs.racks.lines_are_kept.Goals.{in-Some+else-not-is_kept, in_default}
 

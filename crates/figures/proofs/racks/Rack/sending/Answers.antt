@@ -1,6 +1,6 @@
 use Rattle.std.proofs.Common.{◌+◌, Some, sym, ap, subst, arith}
 use Rattle.figures.specs.Racks.{cell_time_of, propagation_of}
-use Rattle.figures.proofs.RackLimits.{Timed, line_timed}
+use Rattle.figures.specs.RackLimits.{Timed, line_timed}
 use Rattle.figures.proofs.racks.Rack.sending.Goals as goal
 
 pub overflow_add-result : goal.overflow_add-result

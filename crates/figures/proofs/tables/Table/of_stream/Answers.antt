@@ -1,5 +1,5 @@
 use Rattle.std.proofs.Common.{refl, arith}
-use Rattle.figures.proofs.RackLimits.{hub_high, hub_ordered}
+use Rattle.figures.specs.RackLimits.{hub_high, hub_ordered}
 use Rattle.figures.proofs.TableFacts.{rack_is_kept}
 use Rattle.figures.proofs.Totals.{total_told}
 use Rattle.figures.proofs.tables.Table.of_stream.Goals as goal

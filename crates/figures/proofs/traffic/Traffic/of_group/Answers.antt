@@ -3,10 +3,10 @@ use Rattle.std.proofs.lemmas.Bool.{cond-true, cond-false}
 use Rattle.arrivals.specs.Limits.{longest, most}
 use Rattle.ports.specs.Loads.{Lawful}
 use Rattle.figures.specs.Sums.{seen}
-use Rattle.figures.proofs.GroupSums.{share, group_more, group_all, seen_small}
-use Rattle.figures.proofs.groups.group_count.Given as given
-use Rattle.figures.proofs.groups.group_count.Goals as goal
-use Rattle.figures.proofs.groups.group_count.Goals.{then-has, else-has}
+use Rattle.figures.specs.GroupSums.{share, group_more, group_all, seen_small}
+use Rattle.figures.proofs.traffic.Traffic.of_group.Given as given
+use Rattle.figures.proofs.traffic.Traffic.of_group.Goals as goal
+use Rattle.figures.proofs.traffic.Traffic.of_group.Goals.{then-has, else-has}
 
 lawful : (g : given.Over) → Lawful g.K.Arrival.alpha
 lawful g =
@@ -15,18 +15,18 @@ lawful g =
 
 pub overflow_add-sum : goal.overflow_add-sum
 overflow_add-sum g c =
-    omega (arith, seen_small g.K.Arrival.alpha (lawful g) (get_or c.args.late.now c.loop-place.place None) c.index-streams-place.result.kind (min c.args.window longest) (omega arith))
+    omega (arith, seen_small g.K.Arrival.alpha (lawful g) (get_or c.args.self.now.late c.loop-place.place None) c.stream-item.result.kind (min c.args.window longest) (omega arith))
 
 pub loop-place-preserved : goal.loop-place-preserved
 loop-place-preserved g c =
     let α = g.K.Arrival.alpha in
     let w = min c.args.window longest in
     let i = c.loop-place.place in
-    let e = c.index-streams-place.result in
+    let e = c.stream-item.result in
     let group = c.args.group.now in
-    let late = c.args.late.now in
+    let late = c.args.self.now.late in
     let small : seen α (get_or late i None) e.kind w ≤ most = seen_small α (lawful g) (get_or late i None) e.kind w (omega arith) in
-    let more = group_more α late group w c.args.streams.now i e c.loop-place-test.true c.index-streams-place.is in
+    let more = group_more α late group w c.args.self.now.streams.now i e c.loop-place-test.true c.stream-item.is in
     elim c.if-has.branch [
       | then-has x ↦
           let s : share α late group w i e ≡ seen α (get_or late i None) e.kind w = cond-true _ _ _ (sym c.has.ensures ∙ x.if-has.true) in
@@ -39,4 +39,4 @@ loop-place-preserved g c =
 
 pub returns : goal.returns
 returns g c =
-    omega (arith, group_all g.K.Arrival.alpha c.args.late.now c.args.group.now (min c.args.window longest) c.args.streams.now c.loop-place.place c.loop-place-test.false)
+    omega (arith, group_all g.K.Arrival.alpha c.args.self.now.late c.args.group.now (min c.args.window longest) c.args.self.now.streams.now c.loop-place.place c.loop-place-test.false)

@@ -23,6 +23,10 @@ module _ {K : Type 0} (α : K → ℕ → ℕ) (late : List (Option ℕ)) (group
   pub group_all : (es : List (Stream K)) (i : ℕ) → length es ≤ i → group_from α late group w i (drop i es) ≡ 0
   group_all es i h = ap (group_from α late group w i) (drop_all i es h)
 
+-- the laws of a kind, together
+pub lawful : {K : Type 0} {α : K → ℕ → ℕ} → ((k : K) → α k 0 ≡ 0) → ((k : K) → 1 ≤ α k 1) → ((k : K) → Rising (α k)) → ((k : K) (w : ℕ) → w ≤ longest → α k w ≤ most) → Lawful α
+lawful none some rises small = record { none = none; some = some; rises = rises; small = small }
+
 module _ {K : Type 0} (α : K → ℕ → ℕ) (lawful : Lawful α) where
   pub seen_small : (late : Option ℕ) (k : K) (w : ℕ) → w ≤ longest → seen α late k w ≤ most
   seen_small None k w h = lawful.small k w h

@@ -9,8 +9,8 @@ use Rattle.figures.specs.declared.streams.Stream.{Stream}
 use Rattle.ports.specs.Loads.{Rising, Lawful}
 use Rattle.figures.specs.Racks.{numbers, line_at, cell_time_of, spread, rack_kept}
 use Rattle.figures.specs.Sums.{line_load, lines_load, hub_sum}
-use Rattle.figures.proofs.GroupSums.{group_rises}
-use Rattle.figures.proofs.RackLimits.{line_timed}
+use Rattle.figures.specs.GroupSums.{group_rises}
+use Rattle.figures.specs.RackLimits.{line_timed}
 
 module _ {K : Type 0} (α : K → ℕ → ℕ) (lawful : Lawful α) (late : List (Option ℕ)) (rack : Rack) (kept : rack_kept rack ≡ true) (table : List (Stream K)) (l : ℕ) where
   line_rises : (i v w : ℕ) → v ≤ w → w ≤ longest → (o : Option Line) → 1 ≤ cell_time_of o → line_load α late rack table l v o i ≤ line_load α late rack table l w o i
