@@ -1,11 +1,12 @@
 -- What every table keeps, one by one.
-use Rattle.std.proofs.Common.{◌≡◌, ℕ, ◌<◌, ◌≤◌, true, ◌&&◌, ltb, leb, List, [], ◌∷◌, length, ap, inl, inr, arith}
+use Rattle.std.proofs.Common.{◌≡◌, ℕ, ◌<◌, ◌≤◌, true, ◌&&◌, ltb, leb, List, [], ◌∷◌, length, refl, ap, inl, inr, arith}
 use Rattle.std.proofs.lemmas.Bool.{and_parts, leb-true, ltb-true}
+use Rattle.std.specs.List.{list_all}
 use Rattle.figures.specs.declared.racks.Rack.{Rack}
 use Rattle.figures.specs.declared.streams.Stream.{Stream}
 use Rattle.figures.specs.Limits.{most_streams}
 use Rattle.figures.specs.Racks.{rack_kept}
-use Rattle.figures.specs.Tables.{◌∈◌, falls_under, all_placed, table_kept}
+use Rattle.figures.specs.Tables.{◌∈◌, falls_under, placed, all_placed, table_kept}
 
 -- priorities that fall under a limit are below it
 pub all_under : {K : Type 0} (high : ℕ) (table : List (Stream K)) → falls_under high table ≡ true → (z : Stream K) → z ∈ table → z.priority < high
@@ -15,6 +16,11 @@ all_under high (s ∷ ss) h z (inl e) =
 all_under high (s ∷ ss) h z (inr m) =
     let o = and_parts (ltb s.priority high) (falls_under s.priority ss) h in
     omega (arith, ltb-true s.priority high o.0, all_under s.priority ss o.1 z m)
+
+-- the streams are placed where each is
+pub each_placed : {K : Type 0} (rack : Rack) (table : List (Stream K)) → list_all (placed rack) table ≡ all_placed rack table
+each_placed rack [] = refl
+each_placed rack (s ∷ ss) = ap (λ b. placed rack s && b) (each_placed rack ss)
 
 module _ {K : Type 0} (rack : Rack) (table : List (Stream K)) (kept : table_kept rack table ≡ true) where
   pub rack_is_kept : rack_kept rack ≡ true

@@ -1,6 +1,6 @@
 -- What a rack that keeps its limits gives, line by line.
-use Rattle.std.proofs.Common.{◌≡◌, ℕ, zero, suc, ◌+◌, ◌-◌, ◌<◌, ◌≤◌, true, false, cond, ◌&&◌, eqb, List, [], ◌∷◌, length, get_or, drop, Some, None, Option, refl, ap, ◌∙◌, arith}
-use Rattle.std.proofs.lemmas.List.{drop_more, drop_all}
+use Rattle.std.proofs.Common.{◌≡◌, ℕ, zero, suc, ◌-◌, ◌≤◌, true, false, cond, ◌&&◌, eqb, List, [], ◌∷◌, get_or, Some, None, Option, refl, ap, arith}
+use Rattle.std.specs.List.{list_all}
 use Rattle.std.proofs.lemmas.Bool.{and_parts}
 use Rattle.std.proofs.lemmas.Bool.Decides.{nat_tests}
 use Rattle.figures.specs.declared.racks.Line.{Line}
@@ -9,15 +9,10 @@ use Rattle.ports.specs.Limits.{longest_cell}
 use Rattle.figures.specs.Limits.{longest_switch, longest_propagation}
 use Rattle.figures.specs.Racks.{line_at, cell_time_of, propagation_of, hub_kept, line_kept, lines_kept, rack_kept}
 
-module _ (lines : List (Option Line)) (i : ℕ) where
-  pub lines_kept_more : i < length lines → line_kept (get_or lines i None) ≡ true → lines_kept (drop i lines) ≡ lines_kept (drop (i + 1) lines)
-  lines_kept_more h kept = ap lines_kept (drop_more lines i None h) ∙ ap (λ b. b && lines_kept (drop (i + 1) lines)) kept
-
-  pub lines_kept_fails : i < length lines → line_kept (get_or lines i None) ≡ false → lines_kept (drop i lines) ≡ false
-  lines_kept_fails h broken = ap lines_kept (drop_more lines i None h) ∙ ap (λ b. b && lines_kept (drop (i + 1) lines)) broken
-
-  pub lines_kept_all : length lines ≤ i → lines_kept (drop i lines) ≡ true
-  lines_kept_all h = ap lines_kept (drop_all i lines h)
+-- the lines keep their limits where each does
+pub each_kept : (lines : List (Option Line)) → list_all line_kept lines ≡ lines_kept lines
+each_kept [] = refl
+each_kept (line ∷ lines) = ap (λ b. line_kept line && b) (each_kept lines)
 
 kept_at : (lines : List (Option Line)) (i : ℕ) → lines_kept lines ≡ true → line_kept (get_or lines i None) ≡ true
 kept_at [] i kept = refl

@@ -1,6 +1,7 @@
 -- The lines of a rack by their numbers, and what every rack keeps.
 use Rattle.std.specs.Prelude.{ℕ, ◌+◌, ◌-◌, Bool, true, false, cond, ◌&&◌, List, [], ◌∷◌, Some, None, Option, ◌==◌, nat_le, slice_index_or}
 use Rattle.figures.specs.declared.racks.Hub.{Hub}
+use Rattle.figures.specs.declared.racks.Side.{Side}
 use Rattle.figures.specs.declared.racks.Side.TheVariants.{Inbound, Outbound}
 use Rattle.figures.specs.declared.racks.Line.{Line}
 use Rattle.figures.specs.declared.racks.Rack.{Rack}
@@ -46,6 +47,11 @@ is_inbound None = false
 abbrev pub is_outbound : Option Line → Bool
 is_outbound (Some line) = elim line.side [ Inbound ↦ false | Outbound ↦ true ]
 is_outbound None = false
+
+-- the line is there, on this side
+abbrev pub is_on : Side → Option Line → Bool
+is_on Inbound = is_inbound
+is_on Outbound = is_outbound
 
 abbrev pub hub_kept : Hub → Bool
 hub_kept hub = nat_le hub.least hub.most && nat_le hub.most longest_switch

@@ -2,7 +2,7 @@
 ghost use Rattle.std.specs.Prelude.{◌≡◌, ℕ, ◌+◌, ◌≤◌, true, length, Some};
 ghost use Rattle.ports.specs.Limits.{longest_cell};
 ghost use Rattle.figures.specs.Limits.{longest_switch, longest_propagation};
-ghost use Rattle.figures.specs.Racks.{line_at, is_inbound, is_outbound, cell_time, sending, spread, hub_kept, line_kept, lines_kept, rack_kept};
+ghost use Rattle.figures.specs.Racks.{line_at, is_on, cell_time, sending, spread, hub_kept, line_kept, lines_kept, rack_kept};
 
 // The hub passes a cell on after `least` to `most` ticks.
 #[derive(Clone, Copy, PartialEq, Eq, Debug)]
@@ -62,17 +62,13 @@ impl Line {
     }
 }
 
-fn lines_are_kept(lines: &[Option<Line>]) -> bool
+// Whether each line that there is keeps its limits.
+fn are_lines_kept(lines: &[Option<Line>]) -> bool
     ensures { result ≡ lines_kept lines.now }
 {
-    for line in lines {
-        if let Some(line) = line {
-            if !line.is_kept() {
-                return false;
-            }
-        }
-    }
-    true
+    lines
+        .iter()
+        .all(|line| line.is_none_or(|line| line.is_kept()))
 }
 
 impl Rack {
@@ -80,39 +76,15 @@ impl Rack {
     pub fn line(&self, number: u8) -> Option<Line>
         ensures { result ≡ line_at self.now number }
     {
-        if number == 0 {
-            return None;
-        }
-        match self.lines.get(number as usize - 1) {
-            Some(line) => *line,
-            None => None,
-        }
+        let place = usize::from(number).checked_sub(1)?;
+        self.lines.get(place).copied().flatten()
     }
 
-    // Whether there is an in-bound line with the number.
-    pub fn is_inbound(&self, number: u8) -> bool
-        ensures { result ≡ is_inbound (line_at self.now number) }
+    // Whether there is a line with the number on this side.
+    pub fn is_on(&self, number: u8, side: Side) -> bool
+        ensures { result ≡ is_on side (line_at self.now number) }
     {
-        match self.line(number) {
-            Some(line) => match line.side {
-                Side::Inbound => true,
-                Side::Outbound => false,
-            },
-            None => false,
-        }
-    }
-
-    // Whether there is an out-bound line with the number.
-    pub fn is_outbound(&self, number: u8) -> bool
-        ensures { result ≡ is_outbound (line_at self.now number) }
-    {
-        match self.line(number) {
-            Some(line) => match line.side {
-                Side::Inbound => false,
-                Side::Outbound => true,
-            },
-            None => false,
-        }
+        self.line(number).is_some_and(|line| line.side == side)
     }
 
     // The cell time of the line `number`; 1 stands in where there is none.
@@ -121,10 +93,7 @@ impl Rack {
         ensures value { result ≡ cell_time self.now number }
         ensures limits { (1 ≤ result) × (result ≤ longest_cell) }
     {
-        match self.line(number) {
-            Some(line) => line.cell_time,
-            None => 1,
-        }
+        self.line(number).map_or(1, |line| line.cell_time)
     }
 
     // The ticks from the start of a sending on the line `number` to the cell's arrival at its end.
@@ -133,16 +102,14 @@ impl Rack {
         ensures value { result ≡ sending self.now number }
         ensures small { result ≤ longest_cell + longest_propagation }
     {
-        match self.line(number) {
-            Some(line) => line.cell_time + line.propagation,
-            None => 1,
-        }
+        let propagation = self.line(number).map_or(0, |line| line.propagation);
+        self.cell_time(number) + propagation
     }
 
     // Whether the numbers that the figures rest on keep their limits.
     pub(crate) fn is_kept(&self) -> bool
         ensures { result ≡ rack_kept self.now }
     {
-        self.hub.is_kept() && lines_are_kept(&self.lines)
+        self.hub.is_kept() && are_lines_kept(&self.lines)
     }
 }

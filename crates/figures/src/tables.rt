@@ -24,16 +24,18 @@ pub struct Table<'a, K> {
     ghost kept: { table_kept rack.now streams.now ≡ true },
 }
 
-// Whether the priorities fall from one stream to the next.
+// Whether the priorities fall from one stream to the next. A loop: with `is_sorted_by` the proof didn't close, since no
+// priority is read there, so that nothing says that the first is below 256.
 fn priorities_fall<K>(streams: &[Stream<K>]) -> bool
     ensures { result ≡ falls_under 256 streams.now }
 {
     let mut high: u16 = 256;
     for stream in streams {
-        if stream.priority as u16 >= high {
+        let priority = u16::from(stream.priority);
+        if priority >= high {
             return false;
         }
-        high = stream.priority as u16;
+        high = priority;
     }
     true
 }
@@ -42,18 +44,13 @@ fn priorities_fall<K>(streams: &[Stream<K>]) -> bool
 fn is_placed<K>(rack: &Rack, stream: &Stream<K>) -> bool
     ensures { result ≡ placed rack.now stream.now }
 {
-    rack.is_inbound(stream.inbound) && rack.is_outbound(stream.outbound)
+    rack.is_on(stream.inbound, Side::Inbound) && rack.is_on(stream.outbound, Side::Outbound)
 }
 
 fn are_placed<K>(rack: &Rack, streams: &[Stream<K>]) -> bool
     ensures { result ≡ all_placed rack.now streams.now }
 {
-    for stream in streams {
-        if !is_placed(rack, stream) {
-            return false;
-        }
-    }
-    true
+    streams.iter().all(|stream| is_placed(rack, stream))
 }
 
 impl<'a, K: Arrival> Table<'a, K> {

@@ -102,10 +102,10 @@ impl<'a, K: Arrival + Copy> Records<'a, K> {
         if !has_fields_within(stream) {
             return Some(TableFault::OutsideLimits);
         }
-        if !self.rack.is_inbound(stream.inbound) {
+        if !self.rack.is_on(stream.inbound, Side::Inbound) {
             return Some(TableFault::NoLine(stream.inbound));
         }
-        if !self.rack.is_outbound(stream.outbound) {
+        if !self.rack.is_on(stream.outbound, Side::Outbound) {
             return Some(TableFault::NoLine(stream.outbound));
         }
         let streams = &self.memory[0..self.len];
