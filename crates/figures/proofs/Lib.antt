@@ -8,4 +8,3 @@ pub mod TableFacts
 pub mod Totals
 pub mod HopScan
 pub mod ByPriority
-pub mod SideNeeds

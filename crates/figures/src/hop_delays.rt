@@ -34,10 +34,8 @@ impl<'a, K: Arrival> Traffic<'a, K> {
     {
         let mut delays: [u32; MOST_STREAMS] = [0; MOST_STREAMS];
         for (place, stream) in self.streams.iter().enumerate() {
-            match self.delay(hop, place) {
-                Some(delay) => delays[place] = delay,
-                None => return Err(FigureFault::NoDelay(stream.number)),
-            }
+            let delay = self.delay(hop, place);
+            delays[place] = delay.ok_or(FigureFault::NoDelay(stream.number))?;
         }
         Ok(delays)
     }

@@ -155,17 +155,14 @@ impl<'a, K: Arrival> Table<'a, K> {
     pub fn need(&self, delays: &Delays, number: u8) -> Result<Option<u32>, FigureFault>
         ensures { NeedToldFor K.Arrival.alpha self.now.rack.now self.now.streams.now delays.now.q1 number result }
     {
-        let need = match self.rack.line(number) {
-            Some(line) => match line.side {
-                Side::Inbound => self.probe_need(number),
-                Side::Outbound => self.hub_need(delays, number),
-            },
-            None => return Ok(None),
+        let Some(line) = self.rack.line(number) else {
+            return Ok(None);
         };
-        match need {
-            Some(need) => Ok(Some(need)),
-            None => Err(FigureFault::NoNeed(number)),
-        }
+        let need = match line.side {
+            Side::Inbound => self.probe_need(number),
+            Side::Outbound => self.hub_need(delays, number),
+        };
+        need.map(Some).ok_or(FigureFault::NoNeed(number))
     }
 
     // The needs of all lines, by rising number.
@@ -173,8 +170,8 @@ impl<'a, K: Arrival> Table<'a, K> {
         ensures { NeedsToldFor K.Arrival.alpha self.now.rack.now self.now.streams.now delays.now.q1 result }
     {
         let mut needs: [Option<u32>; 16] = [None; 16];
-        for number in 1..17u8 {
-            needs[number as usize - 1] = self.need(delays, number)?;
+        for number in 1..=16u8 {
+            needs[usize::from(number) - 1] = self.need(delays, number)?;
         }
         Ok(needs)
     }

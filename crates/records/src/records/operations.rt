@@ -14,7 +14,7 @@ use crate::lines::LineFigures;
 use crate::slices::{find_number, find_priority, insert_at, place_of, remove_at};
 use admission::{LAST_LINE, LAST_STREAM, MOST_PLACES, TableFault, check, has_fields_within};
 use arrivals::Arrival;
-use figures::{Line, MOST_STREAMS, Rack, Stream, StreamFigures, Table};
+use figures::{Line, MOST_STREAMS, Rack, Side, Stream, StreamFigures, Table};
 
 // The check of the first `n` records.
 fn check_front<'a, K: Arrival>(

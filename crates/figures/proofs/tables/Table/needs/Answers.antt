@@ -23,7 +23,8 @@ loop-number-preserved g c =
     let n = c.loop-number.number in
     let needs = c.loop-number.needs in
     let r = c.in_ok-needs.field-0 in
-    let Told = NeedToldFor g.K.Arrival.alpha table.rack.now table.streams.now c.args.delays.now.q1 in (
+    let Told = NeedToldFor g.K.Arrival.alpha table.rack.now table.streams.now c.args.delays.now.q1 in
+    rw c.from.ensures (
       length-set needs (n - 1) r ∙ c.loop-number.invariant.0,
       λ m low less.
           elim (cases_lt m n) [
