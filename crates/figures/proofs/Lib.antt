@@ -8,3 +8,4 @@ pub mod TableFacts
 pub mod Totals
 pub mod HopScan
 pub mod ByPriority
+pub mod Maps
