@@ -27,7 +27,7 @@ impl FigureFault {
     {
         match *self {
             FigureFault::NoDelay(stream) => stream,
-            FigureFault::NoNeed(line) => line as u16,
+            FigureFault::NoNeed(line) => u16::from(line),
         }
     }
 }

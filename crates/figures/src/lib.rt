@@ -2,6 +2,7 @@
 #![tactic(auto)]
 
 mod delays;
+mod display;
 mod faults;
 mod groups;
 mod hop_delays;
