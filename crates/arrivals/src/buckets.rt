@@ -23,13 +23,13 @@ impl Bucket {
     pub fn new(burst: u32, interval: u32) -> Result<Bucket, KindFault>
         ensures { result ≡ made burst interval }
     {
-        if burst < 1 || burst > Bucket::LARGEST_BURST {
-            return Err(KindFault::OutsideLimits);
+        if (1..=Bucket::LARGEST_BURST).contains(&burst)
+            && (1..=Bucket::LONGEST_INTERVAL).contains(&interval)
+        {
+            Ok(Bucket { burst, interval })
+        } else {
+            Err(KindFault::OutsideLimits)
         }
-        if interval < 1 || interval > Bucket::LONGEST_INTERVAL {
-            return Err(KindFault::OutsideLimits);
-        }
-        Ok(Bucket { burst, interval })
     }
 
     // The bucket that these numbers mean: themselves where they keep the limits.
@@ -37,13 +37,10 @@ impl Bucket {
         ensures value { result ≡ meaning self.now }
         ensures kept { Kept result }
     {
-        match Bucket::new(self.burst, self.interval) {
-            Ok(bucket) => bucket,
-            Err(_) => Bucket {
-                burst: 1,
-                interval: 1,
-            },
-        }
+        Bucket::new(self.burst, self.interval).unwrap_or(Bucket {
+            burst: 1,
+            interval: 1,
+        })
     }
 }
 

@@ -29,16 +29,11 @@ impl Message {
     pub fn new(period: u32, jitter: u32, cells: u32, gap: u32) -> Result<Message, KindFault>
         ensures { result ≡ made period jitter cells gap }
     {
-        if period < 1 || period > Message::LONGEST_PERIOD {
-            return Err(KindFault::OutsideLimits);
-        }
-        if jitter > Message::LARGEST_JITTER {
-            return Err(KindFault::OutsideLimits);
-        }
-        if cells < 1 || cells > Message::MOST_CELLS {
-            return Err(KindFault::OutsideLimits);
-        }
-        if gap < 1 || gap > Message::LONGEST_GAP {
+        if !(1..=Message::LONGEST_PERIOD).contains(&period)
+            || jitter > Message::LARGEST_JITTER
+            || !(1..=Message::MOST_CELLS).contains(&cells)
+            || !(1..=Message::LONGEST_GAP).contains(&gap)
+        {
             return Err(KindFault::OutsideLimits);
         }
         if cells * gap > period {
@@ -57,15 +52,12 @@ impl Message {
         ensures value { result ≡ meaning self.now }
         ensures kept { Kept result }
     {
-        match Message::new(self.period, self.jitter, self.cells, self.gap) {
-            Ok(message) => message,
-            Err(_) => Message {
-                period: 1,
-                jitter: 0,
-                cells: 1,
-                gap: 1,
-            },
-        }
+        Message::new(self.period, self.jitter, self.cells, self.gap).unwrap_or(Message {
+            period: 1,
+            jitter: 0,
+            cells: 1,
+            gap: 1,
+        })
     }
 }
 
