@@ -5,70 +5,57 @@
 mod tests {
     use arrivals::{Arrival, Bucket, Choice, Delayed, KindFault, Message};
 
-    // 0 stands for an accepted kind.
-    fn answer_of_message(made: Result<Message, KindFault>) -> u8 {
-        match made {
-            Ok(_) => 0,
-            Err(fault) => fault.number(),
-        }
+    // The number of the refusal; None where the kind is accepted.
+    fn refusal<K: Drop>(made: Result<K, KindFault>) -> Option<u8> {
+        made.err().map(|fault| fault.number())
     }
 
-    fn answer_of_bucket(made: Result<Bucket, KindFault>) -> u8 {
-        match made {
-            Ok(_) => 0,
-            Err(fault) => fault.number(),
-        }
-    }
-
-    // Period, jitter, cells, gap, and the answer: each limit at its edge and one past it.
+    // Period, jitter, cells, gap, and the refusal: each limit at its edge and one past it.
     #[test]
     fn messages_at_their_limits(rt: HostRuntime) {
         let cases = [
-            (6, 0, 3, 2, 0),
-            (5, 0, 3, 2, 7),
-            (0, 0, 1, 1, 6),
-            (1, 0, 1, 1, 0),
-            (200_000, 0, 1, 1, 0),
-            (200_001, 0, 1, 1, 6),
-            (1, 100_000, 1, 1, 0),
-            (1, 100_001, 1, 1, 6),
-            (256, 0, 0, 1, 6),
-            (256, 0, 256, 1, 0),
-            (257, 0, 257, 1, 6),
-            (200_000, 0, 1, 0, 6),
-            (200_000, 0, 1, 200_000, 0),
-            (200_000, 0, 1, 200_001, 6),
+            (6, 0, 3, 2, None),
+            (5, 0, 3, 2, Some(7)),
+            (0, 0, 1, 1, Some(6)),
+            (1, 0, 1, 1, None),
+            (200_000, 0, 1, 1, None),
+            (200_001, 0, 1, 1, Some(6)),
+            (1, 100_000, 1, 1, None),
+            (1, 100_001, 1, 1, Some(6)),
+            (256, 0, 0, 1, Some(6)),
+            (256, 0, 256, 1, None),
+            (257, 0, 257, 1, Some(6)),
+            (200_000, 0, 1, 0, Some(6)),
+            (200_000, 0, 1, 200_000, None),
+            (200_000, 0, 1, 200_001, Some(6)),
             (
                 4_294_967_295,
                 4_294_967_295,
                 4_294_967_295,
                 4_294_967_295,
-                6,
+                Some(6),
             ),
-            (2, 0, 3, 0, 6),
+            (2, 0, 3, 0, Some(6)),
         ];
         for (period, jitter, cells, gap, expected) in cases {
-            assert_eq!(rt;
-                answer_of_message(Message::new(period, jitter, cells, gap)),
-                expected
-            );
+            assert_eq!(rt; refusal(Message::new(period, jitter, cells, gap)), expected);
         }
     }
 
-    // Burst, interval, and the answer.
+    // Burst, interval, and the refusal.
     #[test]
     fn buckets_at_their_limits(rt: HostRuntime) {
         let cases = [
-            (0, 1, 6),
-            (1, 1, 0),
-            (4_096, 1, 0),
-            (4_097, 1, 6),
-            (1, 0, 6),
-            (1, 200_000, 0),
-            (1, 200_001, 6),
+            (0, 1, Some(6)),
+            (1, 1, None),
+            (4_096, 1, None),
+            (4_097, 1, Some(6)),
+            (1, 0, Some(6)),
+            (1, 200_000, None),
+            (1, 200_001, Some(6)),
         ];
         for (burst, interval, expected) in cases {
-            assert_eq!(rt; answer_of_bucket(Bucket::new(burst, interval)), expected);
+            assert_eq!(rt; refusal(Bucket::new(burst, interval)), expected);
         }
     }
 

@@ -44,24 +44,28 @@ mod tests {
         }
     }
 
-    // The refusal's number and whom it names, or 0 and the need of line 1.
-    fn answer<'a>(rack: &'a Rack, streams: &'a [Stream<Message>]) -> (u8, u32) {
-        let Some(table) = Table::new(rack, streams) else {
-            return (255, 0);
-        };
-        match table.figures() {
-            Ok(figures) => (0, figures.needs[0].unwrap_or(0)),
-            Err(fault) => (fault.number(), fault.party() as u32),
-        }
+    // The need of line 1, or the refusal's number and whom it names; None where there is no table.
+    fn answer<'a>(
+        rack: &'a Rack,
+        streams: &'a [Stream<Message>],
+    ) -> Option<Result<Option<u32>, (u8, u16)>> {
+        let table = Table::new(rack, streams)?;
+        Some(match table.figures() {
+            Ok(figures) => Ok(figures.needs[0]),
+            Err(fault) => Err((fault.number(), fault.party())),
+        })
     }
 
     // With one cell in 2 ticks line 1 is never clear; with one in 3 it is, and holds one waiting behind a dump.
     #[test]
     fn overload(rt: HostRuntime) {
         let rack = rack();
-        assert_eq!(rt; answer(&rack, &[stream(5, 9, 2)]), (29, 1));
-        assert_eq!(rt; answer(&rack, &[stream(5, 9, 3)]), (0, 1));
-        assert_eq!(rt; answer(&rack, &[stream(5, 9, 3), stream(6, 8, 3)]), (27, 6));
+        assert_eq!(rt; answer(&rack, &[stream(5, 9, 2)]), Some(Err((29, 1))));
+        assert_eq!(rt; answer(&rack, &[stream(5, 9, 3)]), Some(Ok(Some(1))));
+        assert_eq!(rt;
+            answer(&rack, &[stream(5, 9, 3), stream(6, 8, 3)]),
+            Some(Err((27, 6)))
+        );
     }
 
     // What makes no table: priorities that do not fall, lines that are not there or on the wrong side.
@@ -75,16 +79,10 @@ mod tests {
         absent.outbound = 0;
         let mut beyond = stream(6, 8, 30);
         beyond.outbound = 17;
-        assert_eq!(rt;
-            answer(&rack, &[stream(5, 9, 30), stream(6, 9, 30)]),
-            (255, 0)
-        );
-        assert_eq!(rt;
-            answer(&rack, &[stream(5, 8, 30), stream(6, 9, 30)]),
-            (255, 0)
-        );
-        assert_eq!(rt; answer(&rack, &[turned]), (255, 0));
-        assert_eq!(rt; answer(&rack, &[absent]), (255, 0));
-        assert_eq!(rt; answer(&rack, &[beyond]), (255, 0));
+        assert_eq!(rt; answer(&rack, &[stream(5, 9, 30), stream(6, 9, 30)]), None);
+        assert_eq!(rt; answer(&rack, &[stream(5, 8, 30), stream(6, 9, 30)]), None);
+        assert_eq!(rt; answer(&rack, &[turned]), None);
+        assert_eq!(rt; answer(&rack, &[absent]), None);
+        assert_eq!(rt; answer(&rack, &[beyond]), None);
     }
 }
