@@ -3,8 +3,8 @@
 #![tactic(auto)]
 
 use arrivals::{Arrival, Bucket, Choice, Message};
-use figures::{FigureFault, Figures, Hub, Line, MOST_STREAMS, Rack, Side, Stream, Table};
-use std::io;
+use figures::{Figures, Hub, Line, MOST_STREAMS, Rack, Side, Stream, Table};
+use std::{array, io};
 
 type Kind = Choice<Message, Bucket>;
 
@@ -18,13 +18,15 @@ fn line(side: Side, propagation: u32) -> Option<Line> {
 }
 
 fn rack() -> Rack {
-    let mut lines = [line(Side::Outbound, 20); 16];
-    for place in 0..8 {
-        lines[place] = line(Side::Inbound, 5);
-    }
     Rack {
         hub: Hub { least: 2, most: 6 },
-        lines,
+        lines: array::from_fn(|place| {
+            if place < 8 {
+                line(Side::Inbound, 5)
+            } else {
+                line(Side::Outbound, 20)
+            }
+        }),
     }
 }
 
@@ -43,7 +45,7 @@ fn bucket(burst: u32, interval: u32) -> Kind {
 
 // Eight kinds, from short bursts to long ones; each line carries one stream of each.
 fn kind(row: u8, column: u8) -> Kind {
-    let longer = 3 * column as u32;
+    let longer = 3 * u32::from(column);
     match row {
         0 => message(160 + longer, 20, 8, 2),
         1 => bucket(2, 20),
@@ -60,7 +62,7 @@ fn stream(place: u8) -> Stream<Kind> {
     let row = place / 8;
     let column = place % 8;
     Stream {
-        number: 1001 + place as u16,
+        number: 1001 + u16::from(place),
         priority: 255 - place,
         inbound: 1 + column,
         outbound: 9 + (row + column) % 8,
@@ -70,21 +72,19 @@ fn stream(place: u8) -> Stream<Kind> {
 }
 
 fn streams() -> [Stream<Kind>; MOST_STREAMS] {
-    let mut streams = [stream(0); MOST_STREAMS];
-    for place in 1..MOST_STREAMS {
-        streams[place] = stream(place as u8);
-    }
-    streams
+    array::from_fn(|place| stream(place as u8))
 }
 
-fn print_streams(rt: HostRuntime, table: &Table<Kind>, figures: &Figures) -> io::Result<()> {
-    for place in 0..MOST_STREAMS {
-        let number = 1001 + place;
+fn print_streams(
+    rt: HostRuntime,
+    table: &Table<Kind>,
+    streams: &[Stream<Kind>],
+    figures: &Figures,
+) -> io::Result<()> {
+    for (place, stream) in streams.iter().enumerate() {
         if let Some(told) = table.of_stream(&figures.delays, place) {
-            let q1 = told.q1;
-            let q2 = told.q2;
-            let total = told.total;
-            println!(rt; "stream {number} q1 {q1} q2 {q2} total {total}")?;
+            let number = stream.number;
+            println!(rt; "stream {number} {told}")?;
         }
     }
     Ok(())
@@ -108,13 +108,9 @@ fn main(rt: HostRuntime) -> io::Result<()> {
     };
     match table.figures() {
         Ok(figures) => {
-            print_streams(rt, &table, &figures)?;
+            print_streams(rt, &table, &streams, &figures)?;
             print_needs(rt, &figures)
         }
-        Err(fault) => {
-            let number = fault.number();
-            let party = fault.party();
-            println!(rt; "no {number} {party}")
-        }
+        Err(fault) => println!(rt; "{fault}"),
     }
 }

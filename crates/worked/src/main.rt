@@ -2,7 +2,7 @@
 #![tactic(auto)]
 
 use arrivals::{Arrival, Bucket, Choice, Message};
-use figures::{FigureFault, Figures, Hub, Line, Rack, Side, Stream, Table};
+use figures::{Figures, Hub, Line, Rack, Side, Stream, Table};
 use std::io;
 
 type Kind = Choice<Message, Bucket>;
@@ -65,10 +65,7 @@ fn print_streams(
     for (place, stream) in streams.iter().enumerate() {
         if let Some(told) = table.of_stream(&figures.delays, place) {
             let number = stream.number;
-            let q1 = told.q1;
-            let q2 = told.q2;
-            let total = told.total;
-            println!(rt; "stream {number} q1 {q1} q2 {q2} total {total}")?;
+            println!(rt; "stream {number} {told}")?;
         }
     }
     Ok(())
@@ -96,10 +93,6 @@ fn main(rt: HostRuntime) -> io::Result<()> {
             print_streams(rt, &table, &streams, &figures)?;
             print_lines(rt, &rack, &figures)
         }
-        Err(fault) => {
-            let number = fault.number();
-            let party = fault.party();
-            println!(rt; "no {number} {party}")
-        }
+        Err(fault) => println!(rt; "{fault}"),
     }
 }
