@@ -85,10 +85,9 @@ impl<'a, K: Arrival> Traffic<'a, K> {
         requires { length inbound.now ≤ 16 }
         ensures { result ≡ lines_load K.Arrival.alpha self.now.late self.now.rack.now self.now.streams.now outbound (min window longest) inbound.now }
     {
-        let mut sum: u32 = 0;
-        for line in inbound {
-            sum += self.of_line(*line, outbound, window);
-        }
-        sum
+        inbound
+            .iter()
+            .map(|line| self.of_line(*line, outbound, window))
+            .sum()
     }
 }
