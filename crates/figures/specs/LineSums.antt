@@ -1,6 +1,5 @@
 -- What the in-bound lines bring to a hub port never falls as the window grows.
-use Rattle.std.proofs.Common.{◌≡◌, ℕ, ◌+◌, ◌-◌, ◌≤◌, true, List, [], ◌∷◌, Some, None, Option, sum_by, refl, ap, ◌∙◌, arith}
-use Rattle.std.proofs.lemmas.List.Sums.{sum_by-cons}
+use Rattle.std.proofs.Common.{◌≡◌, ℕ, ◌+◌, ◌-◌, ◌≤◌, true, List, [], ◌∷◌, Some, None, Option, arith}
 use Rattle.arrivals.specs.Limits.{longest}
 use Rattle.arrivals.specs.Quotients.{div_rises}
 use Rattle.figures.specs.declared.groups.Group.TheVariants.{Between}
@@ -12,14 +11,6 @@ use Rattle.figures.specs.Racks.{numbers, line_at, cell_time_of, spread, rack_kep
 use Rattle.figures.specs.Sums.{line_load, lines_load, hub_sum}
 use Rattle.figures.specs.GroupSums.{group_rises}
 use Rattle.figures.specs.RackLimits.{line_timed}
-
--- the lines' sum is that of each line
-pub each_line : {K : Type 0} (α : K → ℕ → ℕ) (late : List (Option ℕ)) (rack : Rack) (table : List (Stream K)) (l w : ℕ) (is : List ℕ)
-    → sum_by (λ i. line_load α late rack table l w (line_at rack i) i) is ≡ lines_load α late rack table l w is
-each_line α late rack table l w [] = refl
-each_line α late rack table l w (i ∷ is) =
-    let load : ℕ → ℕ = λ i. line_load α late rack table l w (line_at rack i) i in
-    sum_by-cons load i is ∙ ap (λ n. load i + n) (each_line α late rack table l w is)
 
 module _ {K : Type 0} (α : K → ℕ → ℕ) (lawful : Lawful α) (late : List (Option ℕ)) (rack : Rack) (kept : rack_kept rack ≡ true) (table : List (Stream K)) (l : ℕ) where
   line_rises : (i v w : ℕ) → v ≤ w → w ≤ longest → (o : Option Line) → 1 ≤ cell_time_of o → line_load α late rack table l v o i ≤ line_load α late rack table l w o i

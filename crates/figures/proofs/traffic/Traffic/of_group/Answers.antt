@@ -1,21 +1,13 @@
-use Rattle.std.proofs.Common.{◌≡◌, ◌≤◌, min, get_or, None, sym, ◌∙◌, arith}
+use Rattle.std.proofs.Common.{◌≡◌, min, get_or, None, sym, ◌∙◌, arith}
 use Rattle.std.proofs.lemmas.Bool.{cond-true, cond-false}
-use Rattle.arrivals.specs.Limits.{longest, most}
-use Rattle.ports.specs.Loads.{Lawful}
+use Rattle.arrivals.specs.Limits.{longest}
 use Rattle.figures.specs.Sums.{seen}
-use Rattle.figures.specs.GroupSums.{share, group_more, group_all, seen_small}
-use Rattle.figures.proofs.traffic.Traffic.of_group.Given as given
+use Rattle.figures.specs.GroupSums.{share, group_more, group_all}
 use Rattle.figures.proofs.traffic.Traffic.of_group.Goals as goal
 use Rattle.figures.proofs.traffic.Traffic.of_group.Goals.{then-has, else-has}
 
-lawful : (g : given.Over) → Lawful g.K.Arrival.alpha
-lawful g =
-    let m = g.met.K.Arrival in
-    record { none = m.none; some = m.some; rises = m.rises; small = m.small }
-
 pub overflow_add-sum : goal.overflow_add-sum
-overflow_add-sum g c =
-    omega (arith, seen_small g.K.Arrival.alpha (lawful g) (get_or c.args.self.now.late c.loop-place.place None) c.stream-item.result.kind (min c.args.window longest) (omega arith))
+overflow_add-sum g c = omega (arith, c.seen_count-sum.ensures.small)
 
 pub loop-place-preserved : goal.loop-place-preserved
 loop-place-preserved g c =
@@ -25,7 +17,6 @@ loop-place-preserved g c =
     let e = c.stream-item.result in
     let group = c.args.group.now in
     let late = c.args.self.now.late in
-    let small : seen α (get_or late i None) e.kind w ≤ most = seen_small α (lawful g) (get_or late i None) e.kind w (omega arith) in
     let more = group_more α late group w c.args.self.now.streams.now i e c.loop-place-test.true c.stream-item.is in
     elim c.if-has.branch [
       | then-has x ↦
