@@ -1,43 +1,34 @@
 // Searches over a slice of streams, and the moves of one record into a slice and out of it.
-ghost use Rattle.std.specs.Prelude.{◌≡◌, ◌+◌, ◌<◌, ◌≤◌, ◌∷◌, ◌++◌, length, take, drop, MatchOption, slice_index_or};
-ghost use Rattle.std.specs.List.{insert, remove};
-ghost use Rattle.records.specs.Lists.{number_at, priority_at, place};
+ghost use Rattle.std.specs.Prelude.{◌≡◌, ◌==◌, ◌+◌, ◌<◌, ◌≤◌, ◌∷◌, ◌++◌, length, take, drop, slice_index_or};
+ghost use Rattle.std.specs.List.{insert, position, remove};
+ghost use Rattle.records.specs.Lists.{place};
 
 use figures::Stream;
 
 // The index of the stream with the number.
 pub fn find_number<K>(streams: &[Stream<K>], number: u16) -> Option<usize>
-    ensures { MatchOption result (number_at number streams.now ≡ length streams.now) (λ i. (i ≡ number_at number streams.now) × (i < length streams.now)) }
+    ensures { result ≡ position (λ s. s.number == number) streams.now }
 {
-    for (i, stream) in streams.iter().enumerate() {
-        if stream.number == number {
-            return Some(i);
-        }
-    }
-    None
+    streams.iter().position(|stream| stream.number == number)
 }
 
 // The index of the stream with the priority.
 pub fn find_priority<K>(streams: &[Stream<K>], priority: u8) -> Option<usize>
-    ensures { MatchOption result (priority_at priority streams.now ≡ length streams.now) (λ i. (i ≡ priority_at priority streams.now) × (i < length streams.now)) }
+    ensures { result ≡ position (λ s. s.priority == priority) streams.now }
 {
-    for (i, stream) in streams.iter().enumerate() {
-        if stream.priority == priority {
-            return Some(i);
-        }
-    }
-    None
+    streams
+        .iter()
+        .position(|stream| stream.priority == priority)
 }
 
 // Where a stream of the priority goes: after those that are more urgent.
 pub fn place_of<K>(streams: &[Stream<K>], priority: u8) -> usize
     ensures { result ≡ place priority streams.now }
 {
-    let mut at = 0;
-    while at < streams.len() && streams[at].priority > priority {
-        at += 1;
-    }
-    at
+    streams
+        .iter()
+        .take_while(|stream| stream.priority > priority)
+        .count()
 }
 
 // Puts `stream` in at `at`: the records from there up to `len` move down by one place, over the first that is free.

@@ -1,5 +1,5 @@
 // What the calls do with the records.
-ghost use Rattle.std.specs.Prelude.{◌≡◌, ℕ, ◌+◌, ◌<◌, ◌≤◌, Bool, true, ◌++◌, length, take, drop};
+ghost use Rattle.std.specs.Prelude.{◌≡◌, ℕ, ◌+◌, ◌<◌, ◌≤◌, Bool, true, ◌++◌, length, take, drop, None, Some, MatchResult};
 ghost use Rattle.std.specs.List.{insert};
 ghost use Rattle.figures.specs.Racks.{line_at};
 ghost use Rattle.figures.specs.Tables.{table_kept, Distinct};
@@ -7,7 +7,7 @@ ghost use Rattle.admission.specs.Checks.{CheckTold};
 ghost use Rattle.admission.specs.Limits.{last_line};
 ghost use Rattle.records.specs.Lists.{place, filed};
 ghost use Rattle.records.specs.Records.{table, state_of, Lawful};
-ghost use Rattle.records.specs.States.{unfiled, if_passed, Requested, Withdrawn, Found, MemoryLeft, unknown_line, places_set, PlacesSet, StreamAnswer, LineAnswer};
+ghost use Rattle.records.specs.States.{unfiled, if_passed, Requested, Withdrawn, Found, LineFound, MemoryLeft, unknown_line, places_set, PlacesSet, StreamAnswer, LineAnswer};
 
 use super::Records;
 use crate::lines::LineFigures;
@@ -38,7 +38,7 @@ fn table_of<'a, K: Arrival>(rack: &'a Rack, memory: &'a [Stream<K>], n: usize) -
     ensures { (result.rack.now ≡ rack.now) × (result.streams.now ≡ take n memory.now) }
 {
     let Some(table) = Table::new(rack, &memory[0..n]) else {
-        unreachable()
+        unreachable!()
     };
     table
 }
@@ -94,31 +94,31 @@ impl<'a, K: Arrival + Copy> Records<'a, K> {
         self.rack.line(number)
     }
 
-    // Why the stream is refused before its table is checked.
-    fn refusal(&self, stream: &Stream<K>) -> Option<TableFault>
+    // Whether the stream can be filed, as far as can be told without the checks of its table.
+    fn check_newcomer(&self, stream: &Stream<K>) -> Result<(), TableFault>
         requires { self.now.len ≤ length self.now.memory.now }
-        ensures { result ≡ unfiled (state_of self.now) stream.now }
+        ensures { MatchResult result (λ _. unfiled (state_of self.now) stream.now ≡ None) (λ fault. unfiled (state_of self.now) stream.now ≡ Some fault) }
     {
         if !has_fields_within(stream) {
-            return Some(TableFault::OutsideLimits);
+            return Err(TableFault::OutsideLimits);
         }
         if !self.rack.is_inbound(stream.inbound) {
-            return Some(TableFault::NoLine(stream.inbound));
+            return Err(TableFault::NoLine(stream.inbound));
         }
         if !self.rack.is_outbound(stream.outbound) {
-            return Some(TableFault::NoLine(stream.outbound));
+            return Err(TableFault::NoLine(stream.outbound));
         }
-        let streams = &self.memory[0..self.len];
-        if let Some(_) = find_number(streams, stream.number) {
-            return Some(TableFault::StreamTaken(stream.number));
+        let streams = self.streams();
+        if find_number(streams, stream.number).is_some() {
+            return Err(TableFault::StreamTaken(stream.number));
         }
         if let Some(holder) = find_priority(streams, stream.priority) {
-            return Some(TableFault::PriorityTaken(streams[holder].number));
+            return Err(TableFault::PriorityTaken(streams[holder].number));
         }
         if self.len >= MOST_STREAMS || self.len >= self.memory.len() {
-            return Some(TableFault::TableFull(stream.number));
+            return Err(TableFault::TableFull(stream.number));
         }
-        None
+        Ok(())
     }
 
     // Where a stream of the priority goes.
@@ -136,9 +136,7 @@ impl<'a, K: Arrival + Copy> Records<'a, K> {
         ensures told { Requested K.Arrival.alpha (state_of self.old) stream result (state_of self.new) }
         ensures left { self.new.memory.now ≡ if_passed result (filed stream (table self.old) ++ drop (self.old.len + 1) self.old.memory.now) self.old.memory.now }
     {
-        if let Some(fault) = self.refusal(&stream) {
-            return Err(fault);
-        }
+        self.check_newcomer(&stream)?;
         let at = self.place(stream.priority);
         let len = self.len;
         let rack = self.rack;
@@ -152,13 +150,10 @@ impl<'a, K: Arrival + Copy> Records<'a, K> {
         requires { self.now.len ≤ length self.now.memory.now }
         ensures { Found (state_of self.now) number result }
     {
-        if number < 1 || number > LAST_STREAM {
+        if !(1..=LAST_STREAM).contains(&number) {
             return Err(TableFault::OutsideLimits);
         }
-        match find_number(&self.memory[0..self.len], number) {
-            Some(place) => Ok(place),
-            None => Err(TableFault::NoStream(number)),
-        }
+        find_number(self.streams(), number).ok_or(TableFault::NoStream(number))
     }
 
     // Takes the stream out, or says that there is none.
@@ -183,17 +178,14 @@ impl<'a, K: Arrival + Copy> Records<'a, K> {
         check_front(&self.rack, self.memory, self.len)
     }
 
-    // Why a call that names a line is refused.
-    fn line_refusal(&self, number: u8) -> Option<TableFault>
-        ensures { result ≡ unknown_line (state_of self.now) number }
+    // The line that a call names, or why there is none.
+    fn known_line(&self, number: u8) -> Result<Line, TableFault>
+        ensures { LineFound (state_of self.now) number result }
     {
-        if number < 1 || number > LAST_LINE {
-            return Some(TableFault::OutsideLimits);
+        if !(1..=LAST_LINE).contains(&number) {
+            return Err(TableFault::OutsideLimits);
         }
-        match self.rack.line(number) {
-            Some(_) => None,
-            None => Some(TableFault::NoLine(number)),
-        }
+        self.rack.line(number).ok_or(TableFault::NoLine(number))
     }
 
     fn write_places(&mut self, number: u8, places: u32)
@@ -201,7 +193,7 @@ impl<'a, K: Arrival + Copy> Records<'a, K> {
         ensures rack { self.new.rack ≡ places_set self.old.rack number places }
         ensures memory { (self.new.memory.now ≡ self.old.memory.now) × (self.new.len ≡ self.old.len) }
     {
-        if let Some(line) = &mut self.rack.lines[number as usize - 1] {
+        if let Some(line) = &mut self.rack.lines[usize::from(number) - 1] {
             line.places = places;
         }
     }
@@ -213,12 +205,10 @@ impl<'a, K: Arrival + Copy> Records<'a, K> {
         ensures told { PlacesSet K.Arrival.alpha (state_of self.old) number places result (state_of self.new) }
         ensures left { self.new.memory.now ≡ self.old.memory.now }
     {
-        if places < 1 || places > MOST_PLACES {
+        if !(1..=MOST_PLACES).contains(&places) {
             return Err(TableFault::OutsideLimits);
         }
-        if let Some(fault) = self.line_refusal(number) {
-            return Err(fault);
-        }
+        self.known_line(number)?;
         let before = self.rack;
         self.write_places(number, places);
         let verdict = self.check();
@@ -246,7 +236,7 @@ impl<'a, K: Arrival + Copy> Records<'a, K> {
         let table = table_of(&self.rack, self.memory, self.len);
         let delays = table.delays()?;
         let Some(figures) = table.of_stream(&delays, place) else {
-            unreachable()
+            unreachable!()
         };
         Ok(figures)
     }
@@ -256,16 +246,11 @@ impl<'a, K: Arrival + Copy> Records<'a, K> {
         requires { Lawful self.now }
         ensures { LineAnswer K.Arrival.alpha (state_of self.now) number result }
     {
-        if let Some(fault) = self.line_refusal(number) {
-            return Err(fault);
-        }
-        let Some(line) = self.rack.line(number) else {
-            unreachable()
-        };
+        let line = self.known_line(number)?;
         let table = table_of(&self.rack, self.memory, self.len);
         let delays = table.delays()?;
         let Some(need) = table.need(&delays, number)? else {
-            unreachable()
+            unreachable!()
         };
         Ok(LineFigures {
             need,

@@ -1,4 +1,4 @@
-use Rattle.std.proofs.Common.{◌≡◌, ◌+◌, ◌≤◌, min, true, ◌++◌, length, take, drop, None, Ok, sym, ◌∙◌, subst, arith}
+use Rattle.std.proofs.Common.{◌≡◌, ◌+◌, ◌≤◌, min, true, ◌++◌, length, take, drop, None, Ok, sym, subst, arith}
 use Rattle.std.specs.List.{insert}
 use Rattle.figures.specs.Limits.{most_streams}
 use Rattle.figures.specs.Tables.{table_kept, Distinct}
@@ -14,7 +14,7 @@ pub try_file-requires : goal.try_file-requires
 try_file-requires g c =
     let net = c.args.self.now in
     let m = net.memory.now in
-    let free : unfiled (state net.rack m net.len) c.args.stream ≡ None = sym c.refusal.ensures ∙ c.in_default.is in
+    let free : unfiled (state net.rack m net.len) c.args.stream ≡ None = c.in_ok-check_newcomer.ensures in
     let room = room_left net.rack m net.len c.args.stream c.requires.inside c.requires.sound free in
     let low = place_low net.rack m net.len c.args.stream c.requires.inside c.requires.sound free in
     let sound = new_sound net.rack m net.len c.args.stream c.requires.inside c.requires.sound free in
@@ -33,7 +33,7 @@ returns g c =
     let len = net.len in
     let s = c.args.stream in
     let n = c.try_file.new.memory in
-    let free : unfiled (state rack m len) s ≡ None = sym c.refusal.ensures ∙ c.in_default.is in
+    let free : unfiled (state rack m len) s ≡ None = c.in_ok-check_newcomer.ensures in
     let is : n ≡ filed s (take len m) ++ drop (len + 1) m =
     subst (λ p. n ≡ insert (take len m) p s ++ drop (len + 1) m) c.place-at.ensures c.in_ok-try_file.ensures.left in
     let told : CheckTold g.K.Arrival.alpha rack (filed s (take len m)) (Ok tt) =
