@@ -17,10 +17,12 @@ pub enum Call<K> {
     OfLine(u8),
 }
 
+// What a call that is not refused tells.
 #[derive(Clone, Copy)]
-pub enum Answer {
+pub enum Told {
     Done,
     Stream(StreamFigures),
     Line(LineFigures),
-    Refused(TableFault),
 }
+
+pub type Answer = Result<Told, TableFault>;

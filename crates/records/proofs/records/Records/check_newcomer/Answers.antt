@@ -17,8 +17,8 @@ returns-in-Some g c =
     let same = ap (λ x. x.number) (get_or_default c.streams-streams.result.now c.in-Some.holder c.index-streams-holder.result c.args.stream.now here.1) in
     search rules
 
-pub returns-then-self-ge-MOST_STREAMS : goal.returns-then-self-ge-MOST_STREAMS
-returns-then-self-ge-MOST_STREAMS g c =
+pub returns-then-is_full : goal.returns-then-is_full
+returns-then-is_full g c =
     let number = number_told c.args.stream.now.number c.streams-streams.result.now c.find_number.result c.find_number.ensures in
     let priority = priority_told c.args.stream.now.priority c.streams-streams.result.now c.find_priority.result c.find_priority.ensures in
     search rules
