@@ -11,8 +11,8 @@ ghost use Rattle.records.specs.Sound.{Sound};
 ghost use Rattle.records.specs.States.{unfiled, if_passed, Requested, Withdrawn, Found, LineFound, MemoryLeft, unknown_line, places_set, PlacesSet, StreamAnswer, LineAnswer};
 
 use super::Records;
-use crate::lines::LineFigures;
 use crate::lent::{LentTable, find_number, find_priority, place_of};
+use crate::lines::LineFigures;
 use admission::{LAST_LINE, LAST_STREAM, MOST_PLACES, TableFault, check, has_fields_within};
 use arrivals::Arrival;
 use figures::{Line, MOST_STREAMS, Rack, Stream, StreamFigures, Table};
