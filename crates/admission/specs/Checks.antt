@@ -92,11 +92,12 @@ module _ {K : Type 0} (α : K → ℕ → ℕ) (rack : Rack) (table : List (Stre
   CheckTold (Err fault) = Refused fault
 
 -- Parts of the check, for any q1 and q2 that the lists have.
-abbrev pub LateTold : {K : Type 0} → Rack → List (Stream K) → Listing → Option ℕ → Type 0
-LateTold {K} rack table figures None =
+abbrev pub DeadlinesTold : {K : Type 0} → Rack → List (Stream K) → Listing → Result (Unit {0}) TableFault → Type 0
+DeadlinesTold {K} rack table figures (Ok x) =
     (q1 q2 : Stream K → ℕ) → Listed q1 table figures.q1 → Listed q2 table figures.q2 → (s : Stream K) → s ∈ table → InTime rack q1 q2 s
-LateTold {K} rack table figures (Some n) =
-    (q1 q2 : Stream K → ℕ) → Listed q1 table figures.q1 → Listed q2 table figures.q2 → FirstOf (InTime rack q1 q2) (TooLate rack q1 q2) table n
+DeadlinesTold {K} rack table figures (Err fault) =
+    (n : ℕ) × (fault ≡ Late n)
+    × ((q1 q2 : Stream K → ℕ) → Listed q1 table figures.q1 → Listed q2 table figures.q2 → FirstOf (InTime rack q1 q2) (TooLate rack q1 q2) table n)
 
 abbrev pub LineTold : {K : Type 0} → (K → ℕ → ℕ) → Rack → List (Stream K) → Listing → ℕ → Result (Unit {0}) TableFault → Type 0
 LineTold {K} α rack table figures l (Ok x) =

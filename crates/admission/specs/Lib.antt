@@ -3,3 +3,4 @@ pub mod Fields
 pub mod Faults
 pub mod Checks
 pub mod Unique
+pub mod Words

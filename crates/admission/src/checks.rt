@@ -1,25 +1,30 @@
 // The checks of a table: delays, deadlines, needs and places.
 ghost use Rattle.std.specs.Prelude.{◌≡◌, ℕ, ◌≤◌, true, length};
 ghost use Rattle.figures.specs.Tables.{table_kept, Distinct};
-ghost use Rattle.admission.specs.Checks.{LateTold, LineTold, LinesTold, CheckTold};
+ghost use Rattle.admission.specs.Checks.{DeadlinesTold, LineTold, LinesTold, CheckTold};
 
 use crate::faults::TableFault;
+use crate::limits::LAST_LINE;
 use arrivals::Arrival;
 use figures::{Delays, Rack, Stream, Table};
 
-// The first stream whose total is above its deadline.
-fn late_stream<K: Arrival>(table: &Table<K>, delays: &Delays, streams: &[Stream<K>]) -> Option<u16>
+// Whether each stream's total is at most its deadline, or the first whose is not.
+fn check_deadlines<K: Arrival>(
+    table: &Table<K>,
+    delays: &Delays,
+    streams: &[Stream<K>],
+) -> Result<(), TableFault>
     requires { table.now.streams.now ≡ streams.now }
-    ensures { LateTold table.now.rack.now streams.now delays.now result }
+    ensures { DeadlinesTold table.now.rack.now streams.now delays.now result }
 {
     for (place, stream) in streams.iter().enumerate() {
         if let Some(figures) = table.of_stream(delays, place) {
             if figures.total > stream.deadline {
-                return Some(stream.number);
+                return Err(TableFault::Late(stream.number));
             }
         }
     }
-    None
+    Ok(())
 }
 
 // Whether the line's port has a need, and places enough for it.
@@ -47,7 +52,7 @@ fn check_lines<K: Arrival>(table: &Table<K>, delays: &Delays, rack: &Rack) -> Re
     requires { table.now.rack.now ≡ rack.now }
     ensures { LinesTold K.Arrival.alpha rack.now table.now.streams.now delays.now result }
 {
-    for number in 1..17u8 {
+    for number in 1..=LAST_LINE {
         check_line(table, delays, rack, number)?;
     }
     Ok(())
@@ -62,11 +67,9 @@ pub fn check<'a, K: Arrival>(rack: &'a Rack, streams: &'a [Stream<K>]) -> Result
     ensures { CheckTold K.Arrival.alpha rack.now streams.now result }
 {
     let Some(table) = Table::new(rack, streams) else {
-        unreachable()
+        unreachable!()
     };
     let delays = table.delays()?;
-    if let Some(number) = late_stream(&table, &delays, streams) {
-        return Err(TableFault::Late(number));
-    }
+    check_deadlines(&table, &delays, streams)?;
     check_lines(&table, &delays, rack)
 }

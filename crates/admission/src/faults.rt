@@ -1,10 +1,13 @@
 // Why a call on a draft or a network is refused.
-ghost use Rattle.std.specs.Prelude.{◌≡◌};
+ghost use Rattle.std.specs.Prelude.{◌≡◌, Some};
 ghost use Rattle.admission.specs.Faults.{refusal, party, layer, of_kind};
 ghost use Rattle.admission.specs.declared.faults.TableFault.TheVariants.{Figure};
+ghost use Rattle.admission.specs.Words.{fault_text};
 
 use arrivals::KindFault;
 use figures::FigureFault;
+use std::error::Error;
+use std::fmt;
 
 // The layer that a fault comes from.
 #[derive(Clone, Copy, PartialEq, Eq, Debug)]
@@ -66,8 +69,9 @@ impl TableFault {
     {
         match *self {
             TableFault::OutsideLimits | TableFault::Overfull => 0,
-            TableFault::LineTaken(line) | TableFault::NoLine(line) | TableFault::Cramped(line) =>
-                line as u16,
+            TableFault::LineTaken(line) | TableFault::NoLine(line) | TableFault::Cramped(line) => {
+                u16::from(line)
+            }
             TableFault::StreamTaken(stream)
             | TableFault::PriorityTaken(stream)
             | TableFault::TableFull(stream)
@@ -86,6 +90,18 @@ impl TableFault {
         }
     }
 }
+
+impl fmt::Display for TableFault {
+    ghost output = { λ fault. Some (fault_text fault) };
+
+    fn fmt<W: fmt::Write>(&self, f: &mut fmt::Formatter<W>) -> fmt::Result {
+        let number = self.number();
+        let party = self.party();
+        write!(f, "no {number} {party}")
+    }
+}
+
+impl Error for TableFault {}
 
 impl From<FigureFault> for TableFault {
     ghost from_gives = { λ f r. r ≡ Figure f };

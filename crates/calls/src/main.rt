@@ -4,7 +4,7 @@
 use admission::TableFault;
 use arrivals::{Arrival, Bucket, Choice, Message};
 use figures::{Line, MOST_STREAMS, Side, Stream};
-use network::{Answer, Call, Draft, Network, carry_out};
+use network::{Answer, Call, Draft, Network, Told, carry_out};
 use std::io;
 
 type Kind = Choice<Message, Bucket>;
@@ -55,54 +55,24 @@ fn stream_11(deadline: u32) -> Stream<Kind> {
     }
 }
 
-fn print_call(rt: HostRuntime, call: &Call<Kind>) -> io::Result<()> {
-    match call {
-        Call::Request(stream) => {
-            let number = stream.number;
-            let deadline = stream.deadline;
-            print!(rt; "request stream {number} deadline {deadline}: ")
-        }
-        Call::Withdraw(number) => print!(rt; "withdraw stream {number}: "),
-        Call::SetPlaces(line, places) => print!(rt; "places of line {line} to {places}: "),
-        Call::OfStream(number) => print!(rt; "stream {number}: "),
-        Call::OfLine(number) => print!(rt; "line {number}: "),
-    }
-}
-
 fn print_answer(rt: HostRuntime, answer: &Answer) -> io::Result<()> {
     match answer {
-        Answer::Done => println!(rt; "done"),
-        Answer::Stream(told) => {
-            let q1 = told.q1;
-            let q2 = told.q2;
-            let total = told.total;
-            println!(rt; "q1 {q1} q2 {q2} total {total}")
-        }
-        Answer::Line(told) => {
-            let need = told.need;
-            let places = told.places;
-            println!(rt; "need {need} of {places}")
-        }
-        Answer::Refused(fault) => {
-            let number = fault.number();
-            let party = fault.party();
-            println!(rt; "no {number} {party}")
-        }
+        Ok(told) => println!(rt; "{told}"),
+        Err(fault) => println!(rt; "{fault}"),
     }
 }
 
 // The figures of the streams that are in, and of both lines.
 fn print_figures(rt: HostRuntime, network: &Network<Kind>) -> io::Result<()> {
-    for number in 10..12u16 {
+    for number in 10..=11u16 {
         if let Ok(told) = network.stream_figures(number) {
-            print!(rt; "    stream {number} ")?;
-            print_answer(rt, &Answer::Stream(told))?;
+            let told = Told::Stream(told);
+            println!(rt; "    stream {number} {told}")?;
         }
     }
-    for number in 1..3u8 {
+    for number in 1..=2u8 {
         if let Ok(told) = network.line_figures(number) {
-            print!(rt; "    line {number} ")?;
-            print_answer(rt, &Answer::Line(told))?;
+            println!(rt; "    line {number} {told}")?;
         }
     }
     Ok(())
@@ -127,7 +97,7 @@ fn one_by_one(rt: HostRuntime, draft: Draft) -> io::Result<()> {
     let mut memory = [stream_10(18); MOST_STREAMS];
     let mut network = draft.close(&mut memory);
     for call in &calls {
-        print_call(rt, call)?;
+        print!(rt; "{call}: ")?;
         let answer = network.carry(call);
         print_answer(rt, &answer)?;
         print_figures(rt, &network)?;
@@ -146,11 +116,11 @@ fn at_once(rt: HostRuntime, draft: Draft) -> io::Result<()> {
         Call::OfLine(1),
         Call::Withdraw(12),
     ];
-    let mut answers = [Answer::Done; 7];
+    let mut answers = [Ok(Told::Done); 7];
     let mut memory = [stream_10(18); MOST_STREAMS];
     let network = carry_out(draft, &mut memory, &calls, &mut answers);
     for (call, answer) in calls.iter().zip(&answers) {
-        print_call(rt, call)?;
+        print!(rt; "{call}: ")?;
         print_answer(rt, answer)?;
     }
     print_figures(rt, &network)

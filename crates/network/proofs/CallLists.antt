@@ -3,9 +3,8 @@ use Rattle.std.proofs.Common.{◌≡◌, ℕ, ◌+◌, ◌<◌, min, List, [], �
 use Rattle.std.proofs.lemmas.List.{take_more, take_more_set, take_all, drop_all, drop-drop, drop-set-lt, length-set}
 use Rattle.std.proofs.lemmas.Bool.{cases_lt}
 use Rattle.records.specs.States.{State}
-use Rattle.network.specs.declared.calls.Answer.{Answer}
 use Rattle.network.specs.declared.calls.Call.{Call}
-use Rattle.network.specs.States.{Answered, Carried}
+use Rattle.network.specs.States.{Answer, Answered, Carried}
 
 module _ {K : Type 0} (α : K → ℕ → ℕ) where
   pub carried_push : (calls : List (Call K)) (answers : List Answer) (st mid st' : State K) (c : Call K) (a : Answer) → Carried α st calls answers mid → Answered α mid c a st' → Carried α st (calls ++ c ∷ []) (answers ++ a ∷ []) st'

@@ -12,10 +12,9 @@ use Rattle.records.specs.Lists.{filed, number_at, withdrawn}
 use Rattle.records.specs.Sound.{Sound}
 use Rattle.records.specs.States.{State, Tried, places_set, unfiled, unknown_stream, unless, unplaced}
 use Rattle.records.proofs.Refusals.{filed_sound, placed_sound, unknown_stream_none, withdrawn_sound}
-use Rattle.network.specs.declared.calls.Answer.{Answer}
 use Rattle.network.specs.declared.calls.Call.{Call}
 use Rattle.network.specs.declared.calls.Call.TheVariants as call
-use Rattle.network.specs.States.{Answered, Carried}
+use Rattle.network.specs.States.{Answer, Answered, Carried}
 
 split_at : {X : Type 0} (i : ℕ) (xs : List X) → i < length xs → (x : X) × (xs ≡ take i xs ++ x ∷ drop (suc i) xs)
 split_at zero [] less = absurd (omega arith)

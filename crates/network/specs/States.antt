@@ -5,23 +5,27 @@ use Rattle.figures.specs.declared.delays.StreamFigures.{StreamFigures}
 use Rattle.admission.specs.declared.faults.TableFault.{TableFault}
 use Rattle.records.specs.declared.lines.LineFigures.{LineFigures}
 use Rattle.records.specs.States.{State, Requested, PlacesSet, Withdrawn, StreamAnswer, LineAnswer}
-use Rattle.network.specs.declared.calls.Answer.{Answer}
-use Rattle.network.specs.declared.calls.Answer.TheVariants as answer
 use Rattle.network.specs.declared.calls.Call.{Call}
 use Rattle.network.specs.declared.calls.Call.TheVariants as call
+use Rattle.network.specs.declared.calls.Told.{Told}
+use Rattle.network.specs.declared.calls.Told.TheVariants as told
+
+-- what a call tells, or why it is refused
+abbrev pub Answer : Type 0
+Answer = Result Told TableFault
 
 -- the answers of the calls as one kind of answer
 abbrev pub done : Result (Unit {0}) TableFault → Answer
-done (Ok x) = answer.Done
-done (Err fault) = answer.Refused fault
+done (Ok x) = Ok told.Done
+done (Err fault) = Err fault
 
 abbrev pub of_stream : Result StreamFigures TableFault → Answer
-of_stream (Ok figures) = answer.Stream figures
-of_stream (Err fault) = answer.Refused fault
+of_stream (Ok figures) = Ok (told.Stream figures)
+of_stream (Err fault) = Err fault
 
 abbrev pub of_line : Result LineFigures TableFault → Answer
-of_line (Ok figures) = answer.Line figures
-of_line (Err fault) = answer.Refused fault
+of_line (Ok figures) = Ok (told.Line figures)
+of_line (Err fault) = Err fault
 
 module _ {K : Type 0} (α : K → ℕ → ℕ) where
   -- one call on a state: its answer, and the state that it leaves

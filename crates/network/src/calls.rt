@@ -1,7 +1,11 @@
 // The calls on a network, and their answers.
+ghost use Rattle.std.specs.Prelude.{Some};
+ghost use Rattle.network.specs.Words.{call_text, told_text};
+
 use admission::TableFault;
 use figures::{Stream, StreamFigures};
 use records::LineFigures;
+use std::fmt;
 
 #[derive(Clone, Copy)]
 pub enum Call<K> {
@@ -17,10 +21,47 @@ pub enum Call<K> {
     OfLine(u8),
 }
 
+// What a call that is not refused tells.
 #[derive(Clone, Copy)]
-pub enum Answer {
+pub enum Told {
     Done,
     Stream(StreamFigures),
     Line(LineFigures),
-    Refused(TableFault),
+}
+
+pub type Answer = Result<Told, TableFault>;
+
+impl<K> fmt::Display for Call<K> {
+    ghost output = { λ call. Some (call_text call) };
+
+    fn fmt<W: fmt::Write>(&self, f: &mut fmt::Formatter<W>) -> fmt::Result {
+        match self {
+            Call::Request(stream) => {
+                let number = stream.number;
+                let deadline = stream.deadline;
+                write!(f, "request stream {number} deadline {deadline}")
+            }
+            Call::Withdraw(number) => write!(f, "withdraw stream {number}"),
+            Call::SetPlaces(line, places) => write!(f, "places of line {line} to {places}"),
+            Call::OfStream(number) => write!(f, "stream {number}"),
+            Call::OfLine(number) => write!(f, "line {number}"),
+        }
+    }
+}
+
+impl fmt::Display for Told {
+    ghost output = { λ told. Some (told_text told) };
+
+    fn fmt<W: fmt::Write>(&self, f: &mut fmt::Formatter<W>) -> fmt::Result {
+        match self {
+            Told::Done => write!(f, "done"),
+            Told::Stream(figures) => {
+                let q1 = figures.q1;
+                let q2 = figures.q2;
+                let total = figures.total;
+                write!(f, "q1 {q1} q2 {q2} total {total}")
+            }
+            Told::Line(figures) => write!(f, "{figures}"),
+        }
+    }
 }

@@ -20,11 +20,9 @@ pub struct Draft {
 fn has_fields_within(line: &Line) -> bool
     ensures { result ≡ line_within line.now }
 {
-    1 <= line.cell_time
-        && line.cell_time <= Line::LONGEST_CELL_TIME
+    (1..=Line::LONGEST_CELL_TIME).contains(&line.cell_time)
         && line.propagation <= Line::LONGEST_PROPAGATION
-        && 1 <= line.places
-        && line.places <= MOST_PLACES
+        && (1..=MOST_PLACES).contains(&line.places)
 }
 
 impl Draft {
@@ -49,13 +47,13 @@ impl Draft {
         ensures told { result ≡ verdict (unlined self.old.rack number line) }
         ensures rack { self.new.rack ≡ unless (unlined self.old.rack number line) (line_set self.old.rack number line) self.old.rack }
     {
-        if number < 1 || number > LAST_LINE || !has_fields_within(&line) {
+        if !(1..=LAST_LINE).contains(&number) || !has_fields_within(&line) {
             return Err(TableFault::OutsideLimits);
         }
         if self.rack.line(number).is_some() {
             return Err(TableFault::LineTaken(number));
         }
-        self.rack.lines[number as usize - 1] = Some(line);
+        self.rack.lines[usize::from(number) - 1] = Some(line);
         Ok(())
     }
 }

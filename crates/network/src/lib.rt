@@ -5,7 +5,7 @@ mod calls;
 mod drafts;
 mod networks;
 
-pub use calls::{Answer, Call};
+pub use calls::{Answer, Call, Told};
 pub use drafts::Draft;
 pub use networks::{Network, carry_all, carry_out};
 pub use records::LineFigures;

@@ -77,95 +77,106 @@ mod tests {
         stream(11, 1, 1, 2, 30, kind)
     }
 
-    // The refusal's number and whom it names; 0 and 0 where there is none.
-    fn told(res: Result<(), TableFault>) -> (u8, u16) {
-        match res {
-            Ok(()) => (0, 0),
-            Err(fault) => (fault.number(), fault.party()),
-        }
+    // The refusal's number and whom it names.
+    type Refusal = (u8, u16);
+
+    fn refusal(fault: TableFault) -> Refusal {
+        (fault.number(), fault.party())
     }
 
-    fn of_stream(network: &Network<Kind>, number: u16) -> (u32, u32, u32) {
+    fn told(res: Result<(), TableFault>) -> Result<(), Refusal> {
+        res.map_err(refusal)
+    }
+
+    // q1, q2 and total.
+    fn of_stream(network: &Network<Kind>, number: u16) -> Result<(u32, u32, u32), Refusal> {
         match network.stream_figures(number) {
-            Ok(figures) => (figures.q1, figures.q2, figures.total),
-            Err(fault) => (0, fault.number() as u32, fault.party() as u32),
+            Ok(figures) => Ok((figures.q1, figures.q2, figures.total)),
+            Err(fault) => Err(refusal(fault)),
         }
     }
 
-    fn of_line(network: &Network<Kind>, number: u8) -> (u32, u32) {
+    // The need and the places.
+    fn of_line(network: &Network<Kind>, number: u8) -> Result<(u32, u32), Refusal> {
         match network.line_figures(number) {
-            Ok(figures) => (figures.need, figures.places),
-            Err(fault) => (fault.number() as u32, fault.party() as u32),
+            Ok(figures) => Ok((figures.need, figures.places)),
+            Err(fault) => Err(refusal(fault)),
         }
     }
 
     // The figures of the streams 10 and 11 and of the lines 1 and 2.
     fn is_full_plan(network: &Network<Kind>) -> bool {
-        of_stream(network, 10) == (1, 1, 18)
-            && of_stream(network, 11) == (9, 5, 30)
-            && of_line(network, 1) == (4, 8)
-            && of_line(network, 2) == (2, 8)
+        of_stream(network, 10) == Ok((1, 1, 18))
+            && of_stream(network, 11) == Ok((9, 5, 30))
+            && of_line(network, 1) == Ok((4, 8))
+            && of_line(network, 2) == Ok((2, 8))
+    }
+
+    // A network with the streams 10 and 11, filed in this order.
+    fn full_plan(memory: &mut [Stream<Kind>]) -> Option<Network<'_, Kind>> {
+        let mut network = draft()?.close(memory);
+        network.request(stream_10()).ok()?;
+        network.request(stream_11()).ok()?;
+        Some(network)
     }
 
     // How many of the streams are filed, and why the next is not.
-    fn filed(memory: &mut [Stream<Kind>], streams: &[Stream<Kind>]) -> Option<(u32, u8, u16)> {
+    fn filed(
+        memory: &mut [Stream<Kind>],
+        streams: &[Stream<Kind>],
+    ) -> Option<(usize, Result<(), Refusal>)> {
         let mut network = draft()?.close(memory);
-        let mut count = 0u32;
-        for stream in streams {
+        for (count, stream) in streams.iter().enumerate() {
             if let Err(fault) = network.request(*stream) {
-                return Some((count, fault.number(), fault.party()));
+                return Some((count, Err(refusal(fault))));
             }
-            count = count.saturating_add(1);
         }
-        Some((count, 0, 0))
+        Some((streams.len(), Ok(())))
     }
 
     // The switch times of the hub.
     #[test]
     fn hubs(rt: HostRuntime) {
         let cases = [
-            (0, 0, 0),
-            (1_000, 1_000, 0),
-            (0, 1_001, 6),
-            (2, 1, 6),
-            (1_001, 1_001, 6),
+            (0, 0, None),
+            (1_000, 1_000, None),
+            (0, 1_001, Some(6)),
+            (2, 1, Some(6)),
+            (1_001, 1_001, Some(6)),
         ];
         for (least, most, refusal) in cases {
-            let answer = match Draft::new(least, most) {
-                Ok(_) => 0,
-                Err(fault) => fault.number(),
-            };
+            let answer = Draft::new(least, most).err().map(|fault| fault.number());
             assert_eq!(rt; answer, refusal);
         }
     }
 
-    // Line, cell time, propagation, places; the refusal and whom it names. The line 1 is taken.
+    // Line, cell time, propagation, places; the answer. The line 1 is taken.
     #[test]
     fn lines(rt: HostRuntime) -> Result<(), Fail> {
         let cases = [
-            (0, 1, 0, 1, 6, 0),
-            (17, 1, 0, 1, 6, 0),
-            (9, 0, 0, 1, 6, 0),
-            (9, 1_001, 0, 1, 6, 0),
-            (9, 1, 10_001, 1, 6, 0),
-            (9, 1, 0, 0, 6, 0),
-            (9, 1, 0, 4_001, 6, 0),
-            (1, 0, 0, 1, 6, 0),
-            (1, 1, 0, 1, 21, 1),
-            (16, 1_000, 10_000, 4_000, 0, 0),
-            (16, 1, 0, 1, 21, 16),
+            (0, 1, 0, 1, Err((6, 0))),
+            (17, 1, 0, 1, Err((6, 0))),
+            (9, 0, 0, 1, Err((6, 0))),
+            (9, 1_001, 0, 1, Err((6, 0))),
+            (9, 1, 10_001, 1, Err((6, 0))),
+            (9, 1, 0, 0, Err((6, 0))),
+            (9, 1, 0, 4_001, Err((6, 0))),
+            (1, 0, 0, 1, Err((6, 0))),
+            (1, 1, 0, 1, Err((21, 1))),
+            (16, 1_000, 10_000, 4_000, Ok(())),
+            (16, 1, 0, 1, Err((21, 16))),
         ];
         let Some(mut draft) = draft() else {
             return Err(Fail::new("no draft"));
         };
-        for (number, cell_time, propagation, places, refusal, party) in cases {
+        for (number, cell_time, propagation, places, answer) in cases {
             let line = Line {
                 side: Side::Inbound,
                 cell_time,
                 propagation,
                 places,
             };
-            assert_eq!(rt; told(draft.add_line(number, line)), (refusal, party));
+            assert_eq!(rt; told(draft.add_line(number, line)), answer);
         }
         Ok(())
     }
@@ -205,8 +216,8 @@ mod tests {
             return Err(Fail::new("no draft"));
         };
         let mut network = draft.close(&mut memory);
-        assert_eq!(rt; told(network.request(stream_11())), (0, 0));
-        assert_eq!(rt; told(network.request(stream_10())), (0, 0));
+        assert_eq!(rt; told(network.request(stream_11())), Ok(()));
+        assert_eq!(rt; told(network.request(stream_10())), Ok(()));
         for (number, priority, inbound, outbound, deadline, refusal, party) in cases {
             let newcomer = stream(
                 number,
@@ -216,7 +227,7 @@ mod tests {
                 deadline,
                 message(20, 3, 2),
             );
-            assert_eq!(rt; told(network.request(newcomer)), (refusal, party));
+            assert_eq!(rt; told(network.request(newcomer)), Err((refusal, party)));
             assert!(rt; is_full_plan(&network));
         }
         Ok(())
@@ -231,15 +242,15 @@ mod tests {
             stream_11(),
             stream(12, 1, 1, 2, 99, message(1, 1, 1)),
         ];
-        assert_eq!(rt; filed(&mut memory, &taken), Some((2, 24, 11)));
+        assert_eq!(rt; filed(&mut memory, &taken), Some((2, Err((24, 11)))));
         let free = [
             stream_10(),
             stream_11(),
             stream(12, 3, 1, 2, 99, message(1, 1, 1)),
         ];
-        assert_eq!(rt; filed(&mut memory, &free), Some((2, 25, 12)));
+        assert_eq!(rt; filed(&mut memory, &free), Some((2, Err((25, 12)))));
         let mut larger = [stream_10(); 3];
-        assert_eq!(rt; filed(&mut larger, &free), Some((2, 27, 12)));
+        assert_eq!(rt; filed(&mut larger, &free), Some((2, Err((27, 12)))));
     }
     // The newcomer, why it is refused, and whom the refusal names.
     #[test]
@@ -264,7 +275,7 @@ mod tests {
         for (newcomer, refusal, party) in cases {
             let mut memory = [stream_10(); 4];
             let answer = filed(&mut memory, &[newcomer]);
-            assert_eq!(rt; answer, Some((0, refusal, party)));
+            assert_eq!(rt; answer, Some((0, Err((refusal, party)))));
         }
     }
 
@@ -290,7 +301,7 @@ mod tests {
         for (first, newcomer, refusal, party) in cases {
             let mut memory = [stream_10(); 4];
             let answer = filed(&mut memory, &[first, newcomer]);
-            assert_eq!(rt; answer, Some((1, refusal, party)));
+            assert_eq!(rt; answer, Some((1, Err((refusal, party)))));
         }
     }
 
@@ -303,14 +314,11 @@ mod tests {
             (stream(12, 3, 5, 3, 99, message(2, 1, 1)), 30, 3),
         ];
         let mut memory = [stream_10(); 4];
-        let Some(draft) = draft() else {
-            return Err(Fail::new("no draft"));
+        let Some(mut network) = full_plan(&mut memory) else {
+            return Err(Fail::new("no full plan"));
         };
-        let mut network = draft.close(&mut memory);
-        assert_eq!(rt; told(network.request(stream_10())), (0, 0));
-        assert_eq!(rt; told(network.request(stream_11())), (0, 0));
         for (newcomer, refusal, party) in cases {
-            assert_eq!(rt; told(network.request(newcomer)), (refusal, party));
+            assert_eq!(rt; told(network.request(newcomer)), Err((refusal, party)));
             assert!(rt; is_full_plan(&network));
         }
         Ok(())
@@ -320,23 +328,17 @@ mod tests {
     #[test]
     fn unknown_streams(rt: HostRuntime) -> Result<(), Fail> {
         let mut memory = [stream_10(); 4];
-        let Some(draft) = draft() else {
-            return Err(Fail::new("no draft"));
+        let Some(mut network) = full_plan(&mut memory) else {
+            return Err(Fail::new("no full plan"));
         };
-        let mut network = draft.close(&mut memory);
-        assert_eq!(rt; told(network.request(stream_10())), (0, 0));
-        assert_eq!(rt; told(network.request(stream_11())), (0, 0));
         for (number, refusal, party) in [
             (0, 6, 0),
             (60_001, 6, 0),
             (1, 26, 1),
             (60_000, 26, 60_000),
         ] {
-            assert_eq!(rt; told(network.withdraw(number)), (refusal, party));
-            assert_eq!(rt;
-                of_stream(&network, number),
-                (0, refusal as u32, party as u32)
-            );
+            assert_eq!(rt; told(network.withdraw(number)), Err((refusal, party)));
+            assert_eq!(rt; of_stream(&network, number), Err((refusal, party)));
             assert!(rt; is_full_plan(&network));
         }
         Ok(())
@@ -357,23 +359,26 @@ mod tests {
             (2, 1, 30, 2),
         ];
         let mut memory = [stream_10(); 4];
-        let Some(draft) = draft() else {
-            return Err(Fail::new("no draft"));
+        let Some(mut network) = full_plan(&mut memory) else {
+            return Err(Fail::new("no full plan"));
         };
-        let mut network = draft.close(&mut memory);
-        assert_eq!(rt; told(network.request(stream_10())), (0, 0));
-        assert_eq!(rt; told(network.request(stream_11())), (0, 0));
         for (number, places, refusal, party) in cases {
-            assert_eq!(rt; told(network.set_places(number, places)), (refusal, party));
+            assert_eq!(rt;
+                told(network.set_places(number, places)),
+                Err((refusal, party))
+            );
             assert!(rt; is_full_plan(&network));
         }
         for (number, places) in [(1, 4), (2, 2), (1, 4_000), (2, 4_000)] {
-            assert_eq!(rt; told(network.set_places(number, places)), (0, 0));
-            assert_eq!(rt; of_line(&network, number).1, places);
+            assert_eq!(rt; told(network.set_places(number, places)), Ok(()));
+            assert_eq!(rt;
+                of_line(&network, number).map(|figures| figures.1),
+                Ok(places)
+            );
         }
-        assert_eq!(rt; of_line(&network, 0), (6, 0));
-        assert_eq!(rt; of_line(&network, 17), (6, 0));
-        assert_eq!(rt; of_line(&network, 6), (22, 6));
+        assert_eq!(rt; of_line(&network, 0), Err((6, 0)));
+        assert_eq!(rt; of_line(&network, 17), Err((6, 0)));
+        assert_eq!(rt; of_line(&network, 6), Err((22, 6)));
         Ok(())
     }
 
@@ -381,8 +386,9 @@ mod tests {
     fn many() -> [Stream<Kind>; 66] {
         let mut streams = [stream(1, 255, 7, 4, 500_000, message(200_000, 1, 1)); 66];
         for place in 1..66u8 {
-            streams[place as usize].number = 1 + place as u16;
-            streams[place as usize].priority = 255 - place;
+            let stream = &mut streams[usize::from(place)];
+            stream.number = 1 + u16::from(place);
+            stream.priority = 255 - place;
         }
         streams
     }
@@ -402,7 +408,7 @@ mod tests {
             let mut memory = [stream_10(); 65];
             assert!(rt; room <= 65);
             let answer = filed(&mut memory[0..room], &streams);
-            assert_eq!(rt; answer, Some((fit, 25, newcomer)));
+            assert_eq!(rt; answer, Some((fit, Err((25, newcomer)))));
         }
     }
 
@@ -410,22 +416,19 @@ mod tests {
     #[test]
     fn withdrawals(rt: HostRuntime) -> Result<(), Fail> {
         let mut memory = [stream_10(); 2];
-        let Some(draft) = draft() else {
-            return Err(Fail::new("no draft"));
+        let Some(mut network) = full_plan(&mut memory) else {
+            return Err(Fail::new("no full plan"));
         };
-        let mut network = draft.close(&mut memory);
-        assert_eq!(rt; told(network.request(stream_10())), (0, 0));
-        assert_eq!(rt; told(network.request(stream_11())), (0, 0));
-        assert_eq!(rt; told(network.withdraw(10)), (0, 0));
-        assert_eq!(rt; of_stream(&network, 10), (0, 26, 10));
-        assert_eq!(rt; of_stream(&network, 11), (3, 1, 20));
-        assert_eq!(rt; told(network.withdraw(10)), (26, 10));
-        assert_eq!(rt; told(network.request(stream_10())), (0, 0));
+        assert_eq!(rt; told(network.withdraw(10)), Ok(()));
+        assert_eq!(rt; of_stream(&network, 10), Err((26, 10)));
+        assert_eq!(rt; of_stream(&network, 11), Ok((3, 1, 20)));
+        assert_eq!(rt; told(network.withdraw(10)), Err((26, 10)));
+        assert_eq!(rt; told(network.request(stream_10())), Ok(()));
         assert!(rt; is_full_plan(&network));
-        assert_eq!(rt; told(network.withdraw(11)), (0, 0));
-        assert_eq!(rt; of_stream(&network, 10), (1, 1, 18));
-        assert_eq!(rt; of_line(&network, 1), (2, 8));
-        assert_eq!(rt; told(network.request(stream_11())), (0, 0));
+        assert_eq!(rt; told(network.withdraw(11)), Ok(()));
+        assert_eq!(rt; of_stream(&network, 10), Ok((1, 1, 18)));
+        assert_eq!(rt; of_line(&network, 1), Ok((2, 8)));
+        assert_eq!(rt; told(network.request(stream_11())), Ok(()));
         assert!(rt; is_full_plan(&network));
         Ok(())
     }
@@ -433,12 +436,17 @@ mod tests {
     // The faults of a kind, as faults of the call that makes it.
     #[test]
     fn kinds(rt: HostRuntime) {
-        for (period, cells, refusal) in [(5, 3, 7), (6, 3, 0), (0, 3, 6), (600, 257, 6)] {
-            let answer = match Message::new(period, 0, cells, 2) {
-                Ok(_) => Ok(()),
-                Err(fault) => Err(TableFault::from(fault)),
-            };
-            assert_eq!(rt; told(answer), (refusal, 0));
+        let cases = [
+            (5, 3, Some((7, 0))),
+            (6, 3, None),
+            (0, 3, Some((6, 0))),
+            (600, 257, Some((6, 0))),
+        ];
+        for (period, cells, answer) in cases {
+            let fault = Message::new(period, 0, cells, 2)
+                .err()
+                .map(TableFault::from);
+            assert_eq!(rt; fault.map(refusal), answer);
         }
     }
 }

@@ -25,11 +25,7 @@ fn one_line(memory: &mut [Stream<Bucket>]) -> Result<LineFigures, TableFault> {
 fn main(rt: HostRuntime) -> io::Result<()> {
     let mut memory: [Stream<Bucket>; 0] = [];
     match one_line(&mut memory) {
-        Ok(told) => {
-            let need = told.need;
-            let places = told.places;
-            println!(rt; "line 1 need {need} of {places}")
-        }
+        Ok(told) => println!(rt; "line 1 {told}"),
         Err(fault) => {
             let number = fault.number();
             println!(rt; "no {number}")

@@ -2,3 +2,4 @@ pub mod Lists
 pub mod States
 pub mod Sound
 pub mod Records
+pub mod Words

@@ -162,6 +162,11 @@ abbrev pub Found : {K : Type 0} → State K → ℕ → Result ℕ TableFault �
 Found st n (Ok i) = (unknown_stream st n ≡ None) × (i ≡ number_at n st.streams)
 Found st n (Err fault) = unknown_stream st n ≡ Some fault
 
+-- the line that a call names, or why there is none
+abbrev pub LineFound : {K : Type 0} → State K → ℕ → Result Line TableFault → Type 0
+LineFound st l (Ok line) = (unknown_line st l ≡ None) × (line_at st.rack l ≡ Some line)
+LineFound st l (Err fault) = unknown_line st l ≡ Some fault
+
 -- a withdrawn record comes to lie behind the table, and the rest of the memory is as before
 abbrev pub MemoryLeft : {K : Type 0} → ℕ → List (Stream K) → ℕ → Result (Unit {0}) TableFault → List (Stream K) → Type 0
 MemoryLeft {K} len m n (Ok x) m' =

@@ -1,12 +1,11 @@
 // The records of a network: the rack, and the table in the memory that the caller lends.
-use figures::{Rack, Stream};
+use crate::lent::LentTable;
+use figures::Rack;
 
 mod operations;
 
-// The first `len` records of the memory are the table.
 #[derive(Drop)]
 pub struct Records<'a, K> {
     rack: Rack,
-    memory: &'a mut [Stream<K>],
-    len: usize,
+    table: LentTable<'a, K>,
 }

@@ -7,10 +7,10 @@ ghost use Rattle.records.specs.Lists.{filed};
 ghost use Rattle.records.specs.Records.{table, state_of};
 ghost use Rattle.records.specs.States.{if_passed, Requested, Withdrawn, PlacesSet, StreamAnswer, LineAnswer, MemoryLeft};
 ghost use Rattle.network.specs.Promise.{Promised};
-ghost use Rattle.network.specs.States.{Answered, Carried, done};
+ghost use Rattle.network.specs.States.{Answered, Carried};
 
 use super::Network;
-use crate::calls::{Answer, Call};
+use crate::calls::{Answer, Call, Told};
 use crate::drafts::Draft;
 use admission::TableFault;
 use arrivals::Arrival;
@@ -21,7 +21,7 @@ impl Draft {
     // The network of the draft, with an empty table in this memory.
     pub fn close<'a, K: Arrival + Copy>(self, memory: &'a mut [Stream<K>]) -> Network<'a, K>
         ensures state { state_of result.records ≡ record { rack = self.rack; streams = []; room = min most_streams (length memory.old) } }
-        ensures memory { result.records.memory.now ≡ memory.old }
+        ensures memory { result.records.table.memory.now ≡ memory.old }
         ensures passing { Passing K.Arrival.alpha result.records.rack (table result.records) }
     {
         let Draft { rack } = self;
@@ -48,8 +48,7 @@ impl<'a, K: Arrival + Copy> Network<'a, K> {
     // Files the stream where the table with it passes every check, else says why not and changes nothing.
     pub fn request(&mut self, stream: Stream<K>) -> Result<(), TableFault>
         ensures told { Requested K.Arrival.alpha (state_of self.old.records) stream result (state_of self.new.records) }
-        ensures left { self.new.records.memory.now ≡ if_passed result (filed stream (table self.old.records) ++ drop (self.old.records.len + 1) self.old.records.memory.now) self.old.records.memory.now }
-        ensures passing { Passing K.Arrival.alpha self.old.records.rack (table self.old.records) → Passing K.Arrival.alpha self.new.records.rack (table self.new.records) }
+        ensures left { self.new.records.table.memory.now ≡ if_passed result (filed stream (table self.old.records) ++ drop (self.old.records.table.len + 1) self.old.records.table.memory.now) self.old.records.table.memory.now }
     {
         self.records.request(stream)
     }
@@ -57,8 +56,7 @@ impl<'a, K: Arrival + Copy> Network<'a, K> {
     // Takes the stream out, or says that there is none and changes nothing.
     pub fn withdraw(&mut self, number: u16) -> Result<(), TableFault>
         ensures told { Withdrawn K.Arrival.alpha (state_of self.old.records) number result (state_of self.new.records) }
-        ensures left { MemoryLeft self.old.records.len self.old.records.memory.now number result self.new.records.memory.now }
-        ensures passing { Passing K.Arrival.alpha self.old.records.rack (table self.old.records) → Passing K.Arrival.alpha self.new.records.rack (table self.new.records) }
+        ensures left { MemoryLeft self.old.records.table.len self.old.records.table.memory.now number result self.new.records.table.memory.now }
     {
         self.records.withdraw(number)
     }
@@ -66,8 +64,7 @@ impl<'a, K: Arrival + Copy> Network<'a, K> {
     // Sets the places of the line where the table passes with them, else says why not and changes nothing.
     pub fn set_places(&mut self, number: u8, places: u32) -> Result<(), TableFault>
         ensures told { PlacesSet K.Arrival.alpha (state_of self.old.records) number places result (state_of self.new.records) }
-        ensures left { self.new.records.memory.now ≡ self.old.records.memory.now }
-        ensures passing { Passing K.Arrival.alpha self.old.records.rack (table self.old.records) → Passing K.Arrival.alpha self.new.records.rack (table self.new.records) }
+        ensures left { self.new.records.table.memory.now ≡ self.old.records.table.memory.now }
     {
         self.records.set_places(number, places)
     }
@@ -98,18 +95,12 @@ impl<'a, K: Arrival + Copy> Network<'a, K> {
     pub fn carry(&mut self, call: &Call<K>) -> Answer
         ensures { Answered K.Arrival.alpha (state_of self.old.records) call.now result (state_of self.new.records) }
     {
-        match call {
-            Call::Request(stream) => done(self.request(*stream)),
-            Call::Withdraw(number) => done(self.withdraw(*number)),
-            Call::SetPlaces(number, places) => done(self.set_places(*number, *places)),
-            Call::OfStream(number) => match self.stream_figures(*number) {
-                Ok(figures) => Answer::Stream(figures),
-                Err(fault) => Answer::Refused(fault),
-            },
-            Call::OfLine(number) => match self.line_figures(*number) {
-                Ok(figures) => Answer::Line(figures),
-                Err(fault) => Answer::Refused(fault),
-            },
+        match *call {
+            Call::Request(stream) => self.request(stream).map(|_| Told::Done),
+            Call::Withdraw(number) => self.withdraw(number).map(|_| Told::Done),
+            Call::SetPlaces(number, places) => self.set_places(number, places).map(|_| Told::Done),
+            Call::OfStream(number) => self.stream_figures(number).map(Told::Stream),
+            Call::OfLine(number) => self.line_figures(number).map(Told::Line),
         }
     }
 }
@@ -124,9 +115,10 @@ pub fn carry_all<K: Arrival + Copy>(
     ensures carried { Carried K.Arrival.alpha (state_of network.old.records) (take (length answers.old) calls.now) (take (length calls.now) answers.new) (state_of network.new.records) }
     ensures rest { drop (length calls.now) answers.new ≡ drop (length calls.now) answers.old }
 {
+    // Of what a zip with `answers.iter_mut()` writes, a proof knows nothing once the loop is over.
     let count = calls.len().min(answers.len());
-    for i in 0..count {
-        answers[i] = network.carry(&calls[i]);
+    for (i, call) in calls[..count].iter().enumerate() {
+        answers[i] = network.carry(call);
     }
 }
 
@@ -149,13 +141,4 @@ pub fn carry_out<'a, K: Arrival + Copy>(
     let mut network = draft.close(memory);
     carry_all(&mut network, calls, answers);
     network
-}
-
-fn done(res: Result<(), TableFault>) -> Answer
-    ensures { result ≡ done res }
-{
-    match res {
-        Ok(()) => Answer::Done,
-        Err(fault) => Answer::Refused(fault),
-    }
 }

@@ -1,90 +1,37 @@
 // What the calls do with the records.
-ghost use Rattle.std.specs.Prelude.{◌≡◌, ℕ, ◌+◌, ◌<◌, ◌≤◌, Bool, true, ◌++◌, length, take, drop};
+ghost use Rattle.std.specs.Prelude.{◌≡◌, ℕ, ◌+◌, ◌<◌, ◌≤◌, Bool, true, ◌++◌, length, take, drop, None, Some, MatchResult};
 ghost use Rattle.std.specs.List.{insert};
 ghost use Rattle.figures.specs.Racks.{line_at};
 ghost use Rattle.figures.specs.Tables.{table_kept, Distinct};
 ghost use Rattle.admission.specs.Checks.{CheckTold};
 ghost use Rattle.admission.specs.Limits.{last_line};
 ghost use Rattle.records.specs.Lists.{place, filed};
-ghost use Rattle.records.specs.Records.{table, state_of, Lawful};
-ghost use Rattle.records.specs.States.{unfiled, if_passed, Requested, Withdrawn, Found, MemoryLeft, unknown_line, places_set, PlacesSet, StreamAnswer, LineAnswer};
+ghost use Rattle.records.specs.Records.{table, state_of};
+ghost use Rattle.records.specs.Sound.{Sound};
+ghost use Rattle.records.specs.States.{unfiled, if_passed, Requested, Withdrawn, Found, LineFound, MemoryLeft, unknown_line, places_set, PlacesSet, StreamAnswer, LineAnswer};
 
 use super::Records;
+use crate::lent::{LentTable, find_number, find_priority, place_of};
 use crate::lines::LineFigures;
-use crate::slices::{find_number, find_priority, insert_at, place_of, remove_at};
 use admission::{LAST_LINE, LAST_STREAM, MOST_PLACES, TableFault, check, has_fields_within};
 use arrivals::Arrival;
 use figures::{Line, MOST_STREAMS, Rack, Side, Stream, StreamFigures, Table};
 
-// The check of the first `n` records.
-fn check_front<'a, K: Arrival>(
-    rack: &'a Rack,
-    memory: &'a [Stream<K>],
-    n: usize,
-) -> Result<(), TableFault>
-    requires inside { n ≤ length memory.now }
-    requires kept { table_kept rack.now (take n memory.now) ≡ true }
-    requires distinct { Distinct (take n memory.now) }
-    requires sixteen { length rack.now.lines ≡ 16 }
-    ensures { CheckTold K.Arrival.alpha rack.now (take n memory.now) result }
-{
-    check(rack, &memory[0..n])
-}
-
-// The table of the first `n` records.
-fn table_of<'a, K: Arrival>(rack: &'a Rack, memory: &'a [Stream<K>], n: usize) -> Table<'a, K>
-    requires inside { n ≤ length memory.now }
-    requires kept { table_kept rack.now (take n memory.now) ≡ true }
-    ensures { (result.rack.now ≡ rack.now) × (result.streams.now ≡ take n memory.now) }
-{
-    let Some(table) = Table::new(rack, &memory[0..n]) else {
-        unreachable()
-    };
-    table
-}
-
-// Files the stream at `at`, and takes it out again where the table with it does not pass.
-fn try_file<K: Arrival + Copy>(
-    rack: &Rack,
-    memory: &mut [Stream<K>],
-    len: usize,
-    at: usize,
-    stream: Stream<K>,
-) -> Result<(), TableFault>
-    requires inside { (at ≤ len) × (len < length memory.old) }
-    requires kept { table_kept rack.now (insert (take len memory.old) at stream) ≡ true }
-    requires distinct { Distinct (insert (take len memory.old) at stream) }
-    requires sixteen { length rack.now.lines ≡ 16 }
-    ensures told { CheckTold K.Arrival.alpha rack.now (insert (take len memory.old) at stream) result }
-    ensures left { memory.new ≡ if_passed result (insert (take len memory.old) at stream ++ drop (len + 1) memory.old) memory.old }
-{
-    let spare = memory[len];
-    insert_at(memory, len, at, stream);
-    let verdict = check_front(rack, memory, len + 1);
-    if verdict.is_err() {
-        remove_at(memory, len + 1, at);
-        memory[len] = spare;
-    }
-    verdict
-}
-
 impl<'a, K: Arrival + Copy> Records<'a, K> {
     pub fn new(rack: Rack, memory: &'a mut [Stream<K>]) -> Records<'a, K>
-        ensures { (result.rack ≡ rack) × (result.len ≡ 0) × (result.memory.now ≡ memory.old) }
+        ensures { (result.rack ≡ rack) × (result.table.len ≡ 0) × (result.table.memory.now ≡ memory.old) }
     {
         Records {
             rack,
-            memory,
-            len: 0,
+            table: LentTable::new(memory),
         }
     }
 
     // The streams of the table.
     pub fn streams(&self) -> &[Stream<K>]
-        requires { self.now.len ≤ length self.now.memory.now }
         ensures { result.now ≡ table self.now }
     {
-        &self.memory[0..self.len]
+        self.table.streams()
     }
 
     // The record of the line with the number, if there is one.
@@ -94,131 +41,105 @@ impl<'a, K: Arrival + Copy> Records<'a, K> {
         self.rack.line(number)
     }
 
-    // Why the stream is refused before its table is checked.
-    fn refusal(&self, stream: &Stream<K>) -> Option<TableFault>
-        requires { self.now.len ≤ length self.now.memory.now }
-        ensures { result ≡ unfiled (state_of self.now) stream.now }
+    // Whether the stream can be filed, as far as can be told without the checks of its table.
+    fn check_newcomer(&self, stream: &Stream<K>) -> Result<(), TableFault>
+        ensures { MatchResult result (λ _. unfiled (state_of self.now) stream.now ≡ None) (λ fault. unfiled (state_of self.now) stream.now ≡ Some fault) }
     {
         if !has_fields_within(stream) {
-            return Some(TableFault::OutsideLimits);
+            return Err(TableFault::OutsideLimits);
         }
         if !self.rack.is_on(stream.inbound, Side::Inbound) {
-            return Some(TableFault::NoLine(stream.inbound));
+            return Err(TableFault::NoLine(stream.inbound));
         }
         if !self.rack.is_on(stream.outbound, Side::Outbound) {
-            return Some(TableFault::NoLine(stream.outbound));
+            return Err(TableFault::NoLine(stream.outbound));
         }
-        let streams = &self.memory[0..self.len];
-        if let Some(_) = find_number(streams, stream.number) {
-            return Some(TableFault::StreamTaken(stream.number));
+        let streams = self.streams();
+        if find_number(streams, stream.number).is_some() {
+            return Err(TableFault::StreamTaken(stream.number));
         }
         if let Some(holder) = find_priority(streams, stream.priority) {
-            return Some(TableFault::PriorityTaken(streams[holder].number));
+            return Err(TableFault::PriorityTaken(streams[holder].number));
         }
-        if self.len >= MOST_STREAMS || self.len >= self.memory.len() {
-            return Some(TableFault::TableFull(stream.number));
+        if self.table.is_full() {
+            return Err(TableFault::TableFull(stream.number));
         }
-        None
-    }
-
-    // Where a stream of the priority goes.
-    fn place(&self, priority: u8) -> usize
-        requires { self.now.len ≤ length self.now.memory.now }
-        ensures { result ≡ place priority (table self.now) }
-    {
-        place_of(&self.memory[0..self.len], priority)
+        Ok(())
     }
 
     // Files the stream where the table with it passes, else says why not and changes nothing.
     pub fn request(&mut self, stream: Stream<K>) -> Result<(), TableFault>
-        requires { Lawful self.old }
-        ensures lawful { Lawful self.new }
+        requires { Sound (state_of self.old) }
+        ensures sound { Sound (state_of self.new) }
         ensures told { Requested K.Arrival.alpha (state_of self.old) stream result (state_of self.new) }
-        ensures left { self.new.memory.now ≡ if_passed result (filed stream (table self.old) ++ drop (self.old.len + 1) self.old.memory.now) self.old.memory.now }
+        ensures left { self.new.table.memory.now ≡ if_passed result (filed stream (table self.old) ++ drop (self.old.table.len + 1) self.old.table.memory.now) self.old.table.memory.now }
     {
-        if let Some(fault) = self.refusal(&stream) {
-            return Err(fault);
-        }
-        let at = self.place(stream.priority);
-        let len = self.len;
-        let rack = self.rack;
-        try_file(&rack, self.memory, len, at, stream)?;
-        self.len = len + 1;
-        Ok(())
+        self.check_newcomer(&stream)?;
+        let at = place_of(self.streams(), stream.priority);
+        self.table.try_file(&self.rack, at, stream)
     }
 
     // The place of the stream with the number.
     fn find(&self, number: u16) -> Result<usize, TableFault>
-        requires { self.now.len ≤ length self.now.memory.now }
         ensures { Found (state_of self.now) number result }
     {
-        if number < 1 || number > LAST_STREAM {
+        if !(1..=LAST_STREAM).contains(&number) {
             return Err(TableFault::OutsideLimits);
         }
-        match find_number(&self.memory[0..self.len], number) {
-            Some(place) => Ok(place),
-            None => Err(TableFault::NoStream(number)),
-        }
+        find_number(self.streams(), number).ok_or(TableFault::NoStream(number))
     }
 
     // Takes the stream out, or says that there is none.
     pub fn withdraw(&mut self, number: u16) -> Result<(), TableFault>
-        requires { Lawful self.old }
-        ensures lawful { Lawful self.new }
+        requires { Sound (state_of self.old) }
+        ensures sound { Sound (state_of self.new) }
         ensures told { Withdrawn K.Arrival.alpha (state_of self.old) number result (state_of self.new) }
-        ensures left { MemoryLeft self.old.len self.old.memory.now number result self.new.memory.now }
+        ensures left { MemoryLeft self.old.table.len self.old.table.memory.now number result self.new.table.memory.now }
     {
         let at = self.find(number)?;
-        let len = self.len;
-        remove_at(self.memory, len, at);
-        self.len = len - 1;
+        self.table.remove(at);
         Ok(())
     }
 
     // The check of the table as it stands.
     fn check(&self) -> Result<(), TableFault>
-        requires { Lawful self.now }
+        requires { Sound (state_of self.now) }
         ensures { CheckTold K.Arrival.alpha self.now.rack (table self.now) result }
     {
-        check_front(&self.rack, self.memory, self.len)
+        check(&self.rack, self.streams())
     }
 
-    // Why a call that names a line is refused.
-    fn line_refusal(&self, number: u8) -> Option<TableFault>
-        ensures { result ≡ unknown_line (state_of self.now) number }
+    // The line that a call names, or why there is none.
+    fn known_line(&self, number: u8) -> Result<Line, TableFault>
+        ensures { LineFound (state_of self.now) number result }
     {
-        if number < 1 || number > LAST_LINE {
-            return Some(TableFault::OutsideLimits);
+        if !(1..=LAST_LINE).contains(&number) {
+            return Err(TableFault::OutsideLimits);
         }
-        match self.rack.line(number) {
-            Some(_) => None,
-            None => Some(TableFault::NoLine(number)),
-        }
+        self.line(number).ok_or(TableFault::NoLine(number))
     }
 
     fn write_places(&mut self, number: u8, places: u32)
         requires { (1 ≤ number) × (number ≤ last_line) }
         ensures rack { self.new.rack ≡ places_set self.old.rack number places }
-        ensures memory { (self.new.memory.now ≡ self.old.memory.now) × (self.new.len ≡ self.old.len) }
+        ensures memory { (self.new.table.memory.now ≡ self.old.table.memory.now) × (self.new.table.len ≡ self.old.table.len) }
     {
-        if let Some(line) = &mut self.rack.lines[number as usize - 1] {
+        if let Some(line) = &mut self.rack.lines[usize::from(number) - 1] {
             line.places = places;
         }
     }
 
     // Sets the places of a line where the table passes with them, else says why not and changes nothing.
     pub fn set_places(&mut self, number: u8, places: u32) -> Result<(), TableFault>
-        requires { Lawful self.old }
-        ensures lawful { Lawful self.new }
+        requires { Sound (state_of self.old) }
+        ensures sound { Sound (state_of self.new) }
         ensures told { PlacesSet K.Arrival.alpha (state_of self.old) number places result (state_of self.new) }
-        ensures left { self.new.memory.now ≡ self.old.memory.now }
+        ensures left { self.new.table.memory.now ≡ self.old.table.memory.now }
     {
-        if places < 1 || places > MOST_PLACES {
+        if !(1..=MOST_PLACES).contains(&places) {
             return Err(TableFault::OutsideLimits);
         }
-        if let Some(fault) = self.line_refusal(number) {
-            return Err(fault);
-        }
+        self.known_line(number)?;
         let before = self.rack;
         self.write_places(number, places);
         let verdict = self.check();
@@ -230,42 +151,40 @@ impl<'a, K: Arrival + Copy> Records<'a, K> {
 
     // The table, for its figures.
     pub fn as_table(&self) -> Table<'_, K>
-        requires { Lawful self.now }
+        requires { Sound (state_of self.now) }
         ensures rack { result.rack.now ≡ self.now.rack }
         ensures streams { result.streams.now ≡ table self.now }
     {
-        table_of(&self.rack, self.memory, self.len)
+        let Some(table) = Table::new(&self.rack, self.streams()) else {
+            unreachable!()
+        };
+        table
     }
 
     // The figures of the stream with the number.
     pub fn stream_figures(&self, number: u16) -> Result<StreamFigures, TableFault>
-        requires { Lawful self.now }
+        requires { Sound (state_of self.now) }
         ensures { StreamAnswer K.Arrival.alpha (state_of self.now) number result }
     {
         let place = self.find(number)?;
-        let table = table_of(&self.rack, self.memory, self.len);
+        let table = self.as_table();
         let delays = table.delays()?;
         let Some(figures) = table.of_stream(&delays, place) else {
-            unreachable()
+            unreachable!()
         };
         Ok(figures)
     }
 
     // The need and the places of the line with the number.
     pub fn line_figures(&self, number: u8) -> Result<LineFigures, TableFault>
-        requires { Lawful self.now }
+        requires { Sound (state_of self.now) }
         ensures { LineAnswer K.Arrival.alpha (state_of self.now) number result }
     {
-        if let Some(fault) = self.line_refusal(number) {
-            return Err(fault);
-        }
-        let Some(line) = self.rack.line(number) else {
-            unreachable()
-        };
-        let table = table_of(&self.rack, self.memory, self.len);
+        let line = self.known_line(number)?;
+        let table = self.as_table();
         let delays = table.delays()?;
         let Some(need) = table.need(&delays, number)? else {
-            unreachable()
+            unreachable!()
         };
         Ok(LineFigures {
             need,

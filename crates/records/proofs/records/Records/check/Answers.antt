@@ -1,7 +1,9 @@
+use Rattle.std.proofs.Common.{sym, subst}
+use Rattle.figures.specs.Tables.{Distinct}
+use Rattle.records.specs.Records.{table}
 use Rattle.records.proofs.Differ.{differ_distinct}
 use Rattle.records.proofs.records.Records.check.Goals as goal
 
-pub check_front-requires : goal.check_front-requires
-check_front-requires g c =
-    let sound = c.requires.sound in
-    record { inside = c.requires.inside; kept = sound.kept; distinct = differ_distinct _ sound.differ; sixteen = sound.sixteen }
+pub check-requires-clause-distinct : goal.check-requires-clause-distinct
+check-requires-clause-distinct g c =
+    subst (λ t. Distinct t) (sym c.streams.ensures) (differ_distinct (table c.args.self.now) c.requires.differ)

@@ -1,4 +1,4 @@
-use Rattle.std.proofs.Common.{◌≡◌, None, Ok, sym, ◌∙◌, subst}
+use Rattle.std.proofs.Common.{◌≡◌, None, Ok, sym, subst}
 use Rattle.std.proofs.lemmas.Result.{err_from_is_err_and}
 use Rattle.figures.specs.Told.{NeedToldFor}
 use Rattle.records.specs.States.{unknown_line}
@@ -9,35 +9,35 @@ use Rattle.records.proofs.records.Records.line_figures.Goals as goal
 pub returns-in_err-delays : goal.returns-in_err-delays
 returns-in_err-delays g c =
     let net = c.args.self.now in
-    let st = state net.rack net.memory.now net.len in
-    let same = c.table_of-table.ensures in
-    let known : unknown_line st c.args.number ≡ None = sym c.line_refusal.ensures ∙ c.in_default.is in
-    let p = err_from_is_err_and c.from_residual.result c.from_residual.ensures.1 in
-    rw (p.1, p.2) (line_undelayed g.K.Arrival.alpha st _ _ same.0 same.1 c.args.number known c.in_err-delays.field-0.0 c.in_err-delays.ensures)
+    let st = state net.rack net.table.memory.now net.table.len in
+    let same = c.as_table-table.ensures in
+    let known : unknown_line st c.args.number ≡ None = c.in_ok-line.ensures.0 in
+    let p = err_from_is_err_and c.from_residual-in_err-delays.result c.from_residual-in_err-delays.ensures.1 in
+    rw (p.1, p.2) (line_undelayed g.K.Arrival.alpha st _ _ same.rack same.streams c.args.number known c.in_err-delays.field-0.0 c.in_err-delays.ensures)
 
 pub returns-in_err-need : goal.returns-in_err-need
 returns-in_err-need g c =
     let net = c.args.self.now in
-    let st = state net.rack net.memory.now net.len in
-    let same = c.table_of-table.ensures in
-    let known : unknown_line st c.args.number ≡ None = sym c.line_refusal.ensures ∙ c.in_default.is in
+    let st = state net.rack net.table.memory.now net.table.len in
+    let same = c.as_table-table.ensures in
+    let known : unknown_line st c.args.number ≡ None = c.in_ok-line.ensures.0 in
     let p = err_from_is_err_and c.from_residual-in_err-need.result c.from_residual-in_err-need.ensures.1 in
-    rw (p.1, p.2) (line_unneeded g.K.Arrival.alpha st _ _ same.0 same.1 c.args.number known c.in_ok-delays.delays c.in_ok-delays.ensures c.in_err-need.field-0.0 c.in_err-need.ensures)
+    rw (p.1, p.2) (line_unneeded g.K.Arrival.alpha st _ _ same.rack same.streams c.args.number known c.in_ok-delays.delays c.in_ok-delays.ensures c.in_err-need.field-0.0 c.in_err-need.ensures)
 
-pub unreachable-requires-in_default-2 : goal.unreachable-requires-in_default-2
-unreachable-requires-in_default-2 g c =
+pub unreachable-requires : goal.unreachable-requires
+unreachable-requires g c =
     let net = c.args.self.now in
-    let st = state net.rack net.memory.now net.len in
-    let same = c.table_of-table.ensures in
-    let known : unknown_line st c.args.number ≡ None = sym c.line_refusal.ensures ∙ c.in_default.is in
-    line_is_there g.K.Arrival.alpha st _ _ same.0 same.1 c.args.number known c.in_ok-delays.delays c.in_ok-delays.ensures c.in-Some-line.line c.in-Some-line.ensures
-    (subst (λ o. NeedToldFor g.K.Arrival.alpha c.table_of-table.result.rack.now c.table_of-table.result.streams.now c.in_ok-delays.delays.q1 c.args.number (Ok o)) c.in_default-2.is c.in_ok-need.ensures)
+    let st = state net.rack net.table.memory.now net.table.len in
+    let same = c.as_table-table.ensures in
+    let known : unknown_line st c.args.number ≡ None = c.in_ok-line.ensures.0 in
+    line_is_there g.K.Arrival.alpha st _ _ same.rack same.streams c.args.number known c.in_ok-delays.delays c.in_ok-delays.ensures c.in_ok-line.line (sym c.in_ok-line.ensures.1)
+    (subst (λ o. NeedToldFor g.K.Arrival.alpha c.as_table-table.result.rack.now c.as_table-table.result.streams.now c.in_ok-delays.delays.q1 c.args.number (Ok o)) c.in_default.is c.in_ok-need.ensures)
 
 pub returns : goal.returns
 returns g c =
     let net = c.args.self.now in
-    let st = state net.rack net.memory.now net.len in
-    let same = c.table_of-table.ensures in
-    let known : unknown_line st c.args.number ≡ None = sym c.line_refusal.ensures ∙ c.in_default.is in
-    line_asked g.K.Arrival.alpha st _ _ same.0 same.1 c.args.number known c.in_ok-delays.delays c.in_ok-delays.ensures c.in-Some-line.line c.in-Some-line.ensures c.in-Some-2.need
-    (subst (λ o. NeedToldFor g.K.Arrival.alpha c.table_of-table.result.rack.now c.table_of-table.result.streams.now c.in_ok-delays.delays.q1 c.args.number (Ok o)) c.in-Some-2.is c.in_ok-need.ensures)
+    let st = state net.rack net.table.memory.now net.table.len in
+    let same = c.as_table-table.ensures in
+    let known : unknown_line st c.args.number ≡ None = c.in_ok-line.ensures.0 in
+    line_asked g.K.Arrival.alpha st _ _ same.rack same.streams c.args.number known c.in_ok-delays.delays c.in_ok-delays.ensures c.in_ok-line.line (sym c.in_ok-line.ensures.1) c.in-Some.need
+    (subst (λ o. NeedToldFor g.K.Arrival.alpha c.as_table-table.result.rack.now c.as_table-table.result.streams.now c.in_ok-delays.delays.q1 c.args.number (Ok o)) c.in-Some.is c.in_ok-need.ensures)

@@ -1,4 +1,4 @@
-use Rattle.std.proofs.Common.{◌≡◌, ℕ, ◌≤◌, true, ◌&&◌, List, length, None, sym, ap, ◌∙◌, subst, arith}
+use Rattle.std.proofs.Common.{◌≡◌, ℕ, ◌≤◌, true, ◌&&◌, List, None, sym, ◌∙◌, subst, arith, rules}
 use Rattle.std.proofs.lemmas.Bool.{cond-true}
 use Rattle.std.proofs.lemmas.Bool.Decides.{nat_tests}
 use Rattle.figures.specs.declared.racks.Rack.{Rack}
@@ -29,10 +29,7 @@ check-verdict-requires g c =
     let net = c.args.self.now in
     let new = c.write_places.new.self in
     let e = c.write_places.ensures in
-    let same = written (places_set net.rack c.args.number c.args.places) new.rack net.memory.now new.memory.now net.len new.len e.rack e.memory.0 e.memory.1 in
-    let free : unplaced (state net.rack net.memory.now net.len) c.args.number c.args.places ≡ None =
-    placed_free (state net.rack net.memory.now net.len) c.args.number c.args.places (sym c.line_refusal.ensures ∙ c.in_default.is) (omega arith) (omega arith) in
-    record {
-      inside = omega (arith, c.requires.inside, ap length e.memory.0, e.memory.1);
-      sound = subst (λ st. Sound st) (sym same) (placed_sound (state net.rack net.memory.now net.len) c.requires.sound c.args.number c.args.places free);
-    }
+    let same = written (places_set net.rack c.args.number c.args.places) new.rack net.table.memory.now new.table.memory.now net.table.len new.table.len e.rack e.memory.0 e.memory.1 in
+    let free : unplaced (state net.rack net.table.memory.now net.table.len) c.args.number c.args.places ≡ None =
+    placed_free (state net.rack net.table.memory.now net.table.len) c.args.number c.args.places c.in_ok-known_line.ensures.0 (search rules) (search rules) in
+    subst (λ st. Sound st) (sym same) (placed_sound (state net.rack net.table.memory.now net.table.len) c.requires c.args.number c.args.places free)

@@ -6,13 +6,13 @@ use Rattle.records.proofs.records.Records.stream_figures.Goals as goal
 pub returns-in_err-delays : goal.returns-in_err-delays
 returns-in_err-delays g c =
     let net = c.args.self.now in
-    let same = c.table_of-table.ensures in
+    let same = c.as_table-table.ensures in
     let p = err_from_is_err_and c.from_residual-in_err-delays.result c.from_residual-in_err-delays.ensures.1 in
     rw (p.1, p.2)
-    (stream_unfigured g.K.Arrival.alpha (state net.rack net.memory.now net.len) _ _ same.0 same.1 c.args.number c.in_ok-place.ensures.0 c.in_err-delays.field-0.0 c.in_err-delays.ensures)
+    (stream_unfigured g.K.Arrival.alpha (state net.rack net.table.memory.now net.table.len) _ _ same.rack same.streams c.args.number c.in_ok-place.ensures.0 c.in_err-delays.field-0.0 c.in_err-delays.ensures)
 
 pub returns : goal.returns
 returns g c =
     let net = c.args.self.now in
-    let same = c.table_of-table.ensures in
-    stream_asked g.K.Arrival.alpha (state net.rack net.memory.now net.len) _ _ same.0 same.1 c.args.number c.in_ok-place.ensures.0 c.in_ok-delays.delays c.in_ok-delays.ensures c.in_ok-place.place c.in_ok-place.ensures.1 c.in-Some.figures c.in-Some.ensures
+    let same = c.as_table-table.ensures in
+    stream_asked g.K.Arrival.alpha (state net.rack net.table.memory.now net.table.len) _ _ same.rack same.streams c.args.number c.in_ok-place.ensures.0 c.in_ok-delays.delays c.in_ok-delays.ensures c.in_ok-place.place c.in_ok-place.ensures.1 c.in-Some.figures c.in-Some.ensures

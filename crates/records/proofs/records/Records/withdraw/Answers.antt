@@ -1,4 +1,4 @@
-use Rattle.std.proofs.Common.{◌≡◌, min, ◌∷◌, ◌++◌, length, get_or, take, drop, None, sym, ap, ◌∙◌, subst, arith}
+use Rattle.std.proofs.Common.{◌≡◌, min, ◌∷◌, ◌++◌, length, get_or, take, drop, None, sym, ap, ◌∙◌, subst}
 use Rattle.std.specs.List.{remove}
 use Rattle.figures.specs.declared.streams.Stream.{Stream}
 use Rattle.figures.specs.Limits.{most_streams}
@@ -13,21 +13,18 @@ pub returns : goal.returns
 returns g c =
     let net = c.args.self.now in
     let rack = net.rack in
-    let m = net.memory.now in
-    let len = net.len in
-    let n = c.remove_at.new.memory in
+    let m = net.table.memory.now in
+    let len = net.table.len in
+    let n = c.remove.new.self.memory.now in
     let found = c.in_ok-at.ensures in
     let known : unknown_stream (state rack m len) c.args.number ≡ None = found.0 in
-    let there = place_there rack m len c.args.number c.requires.inside c.requires.sound known in
+    let there = place_there rack m len c.args.number net.table.inside c.requires known in
     let is : (d : Stream g.row.K.Denot) → n ≡ remove (take len m) (number_at c.args.number (take len m)) ++ get_or m (number_at c.args.number (take len m)) d ∷ drop len m =
-    λ d. subst (λ a. n ≡ remove (take len m) a ++ get_or m a d ∷ drop len m) found.1 (c.remove_at.ensures d) in
-    let gone : Out m n len (number_at c.args.number (take len m)) = out m n len _ there c.requires.inside is in
-    let new = left_state rack m len c.args.number c.requires.inside c.requires.sound known n gone in
+    λ d. subst (λ a. n ≡ remove (take len m) a ++ get_or m a d ∷ drop len m) found.1 (c.remove.ensures.memory d) in
+    let gone : Out m n len (number_at c.args.number (take len m)) = out m n len _ there net.table.inside is in
+    let new = ap (state rack n) c.remove.ensures.len ∙ left_state rack m len c.args.number net.table.inside c.requires known n gone in
     record {
-      lawful = record {
-        inside = omega (arith, gone.long, c.requires.inside);
-        sound = subst (λ st. Sound st) (sym new) (left_sound rack m len c.args.number c.requires.inside c.requires.sound known);
-      };
+      sound = subst (λ st. Sound st) (sym new) (left_sound rack m len c.args.number net.table.inside c.requires known);
       told = (
         ap verdict (sym known),
         new ∙ ap (λ o. unless o (record { rack = rack; streams = withdrawn c.args.number (take len m); room = min most_streams (length m) }) (state rack m len)) (sym known),

@@ -1,17 +1,20 @@
-use Rattle.std.proofs.Common.{◌≤◌, length, subst, arith}
+use Rattle.std.proofs.Common.{◌≤◌, length, refl, subst, arith}
 use Rattle.figures.specs.Told.{StreamTold}
 use Rattle.admission.proofs.Parts.{in_time_more, first_late, all_in_time}
-use Rattle.admission.proofs.checks.late_stream.Goals as goal
-use Rattle.admission.proofs.checks.late_stream.Goals.{in-Some+else-figures-stream, in_default}
+use Rattle.admission.proofs.checks.check_deadlines.Goals as goal
+use Rattle.admission.proofs.checks.check_deadlines.Goals.{in-Some+else-figures-stream, in_default}
 
 pub loop-place-init : goal.loop-place-init
 loop-place-init g c q1 q2 first second j less d = absurd (omega arith)
 
 pub returns-then-figures-stream : goal.returns-then-figures-stream
 returns-then-figures-stream g c =
-    let rack = c.args.table.now.rack.now in
-    first_late rack c.args.streams.now c.args.delays.now c.loop-place.place c.in-Some.figures c.index-streams-place.result
-    (subst (λ t. StreamTold rack t c.args.delays.now c.loop-place.place c.in-Some.figures) c.requires c.in-Some.ensures) c.index-streams-place.is c.if-figures-stream.true c.loop-place.invariant
+    let rack = c.args.table.now.rack.now in (
+      c.index-streams-place.result.number,
+      refl,
+      first_late rack c.args.streams.now c.args.delays.now c.loop-place.place c.in-Some.figures c.index-streams-place.result
+          (subst (λ t. StreamTold rack t c.args.delays.now c.loop-place.place c.in-Some.figures) c.requires c.in-Some.ensures) c.index-streams-place.is c.if-figures-stream.true c.loop-place.invariant,
+    )
 
 pub loop-place-preserved : goal.loop-place-preserved
 loop-place-preserved g c =
