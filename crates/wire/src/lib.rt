@@ -8,7 +8,7 @@ mod opening;
 mod records;
 mod walkers;
 
-pub use bytes::{be16, be32};
+pub use bytes::{BigEndian, number_at};
 pub use faults::{FileFault, placed};
 pub use filed::Filed;
 pub use opening::open;

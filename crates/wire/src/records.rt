@@ -3,7 +3,7 @@ ghost use Rattle.std.specs.Prelude.{◌≡◌, ℕ, ◌+◌, ◌≤◌, length};
 ghost use Rattle.arrivals.specs.declared.choices.Choice.TheVariants.{First, Second};
 ghost use Rattle.wire.specs.Records.{coded, long_of, shape_of, side_of, line_of, within, stream_of, with_kind, values_of, record_of};
 
-use crate::bytes::{four_at, one_at, two_at};
+use crate::bytes::number_at;
 use crate::faults::{FileFault, placed};
 use crate::filed::Filed;
 use admission::TableFault;
@@ -112,16 +112,16 @@ fn read_line<K>(rest: &[u8]) -> Result<Record<K>, TableFault>
     requires { length rest.now ≡ 8 }
     ensures { result ≡ line_of rest.now }
 {
-    let Some(side) = side(one_at(rest, 1)) else {
+    let Some(side) = side(number_at(rest, 1)) else {
         return Err(TableFault::OutsideLimits);
     };
     Ok(Record::Line {
-        number: one_at(rest, 0),
+        number: number_at(rest, 0),
         line: Line {
             side,
-            cell_time: u32::from(two_at(rest, 2)),
-            propagation: u32::from(two_at(rest, 4)),
-            places: u32::from(two_at(rest, 6)),
+            cell_time: u32::from(number_at::<u16, 2>(rest, 2)),
+            propagation: u32::from(number_at::<u16, 2>(rest, 4)),
+            places: u32::from(number_at::<u16, 2>(rest, 6)),
         },
     })
 }
@@ -144,14 +144,14 @@ fn are_within(number: u16, priority: u8, inbound: u8, outbound: u8, deadline: u3
 // A stream of the kind F, from what follows the code: first the fields that every stream has, then those of
 // its kind.
 pub fn read_stream<F: Filed>(rest: &[u8]) -> Result<Stream<F>, TableFault>
-    requires { length rest.now ≡ 9 + F.Filed.long }
+    requires { length rest.now ≡ 9 + F.LENGTH }
     ensures { result ≡ stream_of F.Filed.filed rest.now }
 {
-    let number = two_at(rest, 0);
-    let priority = one_at(rest, 2);
-    let inbound = one_at(rest, 3);
-    let outbound = one_at(rest, 4);
-    let deadline = four_at(rest, 5);
+    let number = number_at(rest, 0);
+    let priority = number_at(rest, 2);
+    let inbound = number_at(rest, 3);
+    let outbound = number_at(rest, 4);
+    let deadline = number_at(rest, 5);
     if !are_within(number, priority, inbound, outbound, deadline) {
         return Err(TableFault::OutsideLimits);
     }
@@ -216,16 +216,16 @@ fn values(shape: Shape, rest: &[u8]) -> Result<Record<Kind>, TableFault>
 {
     match shape {
         Shape::Hub => Ok(Record::Hub {
-            least: u32::from(two_at(rest, 0)),
-            most: u32::from(two_at(rest, 2)),
+            least: u32::from(number_at::<u16, 2>(rest, 0)),
+            most: u32::from(number_at::<u16, 2>(rest, 2)),
         }),
         Shape::Line => read_line(rest),
         Shape::Message => Ok(Record::Stream(first(read_stream::<Message>(rest)?))),
         Shape::Bucket => Ok(Record::Stream(second(read_stream::<Bucket>(rest)?))),
-        Shape::Withdrawal => Ok(Record::Withdrawal(two_at(rest, 0))),
+        Shape::Withdrawal => Ok(Record::Withdrawal(number_at(rest, 0))),
         Shape::Places => Ok(Record::Places {
-            number: one_at(rest, 0),
-            places: u32::from(two_at(rest, 1)),
+            number: number_at(rest, 0),
+            places: u32::from(number_at::<u16, 2>(rest, 1)),
         }),
     }
 }

@@ -2,7 +2,7 @@
 ghost use Rattle.std.specs.Prelude.{◌≡◌, ℕ, ◌+◌, ◌^◌, ◌<◌, ◌≤◌, length, MatchOption, MatchResult};
 ghost use Rattle.wire.specs.Walks.{Ended, Met, CutOff, WalkJoins};
 
-use crate::bytes::be16;
+use crate::bytes::BigEndian;
 use crate::faults::FileFault;
 
 // The bytes of a record, and the place of its first length byte.
@@ -37,7 +37,7 @@ impl<'a> Walker<'a> {
         match self.rest {
             [] => Ok(None),
             [high, low, rest @ ..] => {
-                let n = usize::from(be16(*high, *low));
+                let n = usize::from(u16::from_bytes(&[*high, *low]));
                 if n > rest.len() {
                     return Err(FileFault::CutShort(at));
                 }
