@@ -1,11 +1,11 @@
 // The records of a plan file: their shapes, and the values that they hold.
 ghost use Rattle.std.specs.Prelude.{◌≡◌, ℕ, ◌+◌, ◌≤◌, length};
-ghost use Rattle.arrivals.specs.declared.choices.Choice.TheVariants.{First, Second};
-ghost use Rattle.wire.specs.Records.{coded, long_of, shape_of, side_of, line_of, within, stream_of, with_kind, values_of, record_of};
+ghost use Rattle.wire.specs.Records.{coded, long_of, shape_of, side_of, line_of, values_of, record_of};
 
 use crate::bytes::number_at;
 use crate::faults::{FileFault, placed};
 use crate::filed::Filed;
+use crate::streams::{STREAM_BYTES, read_stream, with_kind};
 use admission::TableFault;
 use arrivals::{Bucket, Choice, Message};
 use figures::{Line, Side, Stream};
@@ -38,15 +38,6 @@ pub enum Record<K> {
     // New places for the port of the line with this number.
     Places { number: u8, places: u32 },
 }
-
-// How many bytes the fields take that every stream has.
-const STREAM_BYTES: usize = 9;
-
-const LAST_STREAM: u16 = 60_000;
-
-const LAST_LINE: u8 = 16;
-
-const LATEST_DEADLINE: u32 = 500_000;
 
 impl Shape {
     // The shape that a record's first byte stands for.
@@ -126,89 +117,6 @@ fn read_line<K>(rest: &[u8]) -> Result<Record<K>, TableFault>
     })
 }
 
-// Whether the fields that every stream has keep their limits.
-fn are_within(number: u16, priority: u8, inbound: u8, outbound: u8, deadline: u32) -> bool
-    ensures { result ≡ within number priority inbound outbound deadline }
-{
-    1 <= number
-        && number <= LAST_STREAM
-        && 1 <= priority
-        && 1 <= inbound
-        && inbound <= LAST_LINE
-        && 1 <= outbound
-        && outbound <= LAST_LINE
-        && 1 <= deadline
-        && deadline <= LATEST_DEADLINE
-}
-
-// A stream of the kind F, from what follows the code: first the fields that every stream has, then those of
-// its kind.
-pub fn read_stream<F: Filed>(rest: &[u8]) -> Result<Stream<F>, TableFault>
-    requires { length rest.now ≡ 9 + F.LENGTH }
-    ensures { result ≡ stream_of F.Filed.filed rest.now }
-{
-    let number = number_at(rest, 0);
-    let priority = number_at(rest, 2);
-    let inbound = number_at(rest, 3);
-    let outbound = number_at(rest, 4);
-    let deadline = number_at(rest, 5);
-    if !are_within(number, priority, inbound, outbound, deadline) {
-        return Err(TableFault::OutsideLimits);
-    }
-    let (_, own) = rest.split_at(STREAM_BYTES);
-    let kind = F::read(own)?;
-    Ok(Stream {
-        number,
-        priority,
-        inbound,
-        outbound,
-        deadline,
-        kind,
-    })
-}
-
-fn first<A, B>(stream: Stream<A>) -> Stream<Choice<A, B>>
-    ensures { result ≡ with_kind First stream }
-{
-    let Stream {
-        number,
-        priority,
-        inbound,
-        outbound,
-        deadline,
-        kind,
-    } = stream;
-    Stream {
-        number,
-        priority,
-        inbound,
-        outbound,
-        deadline,
-        kind: Choice::First(kind),
-    }
-}
-
-fn second<A, B>(stream: Stream<B>) -> Stream<Choice<A, B>>
-    ensures { result ≡ with_kind Second stream }
-{
-    let Stream {
-        number,
-        priority,
-        inbound,
-        outbound,
-        deadline,
-        kind,
-    } = stream;
-    Stream {
-        number,
-        priority,
-        inbound,
-        outbound,
-        deadline,
-        kind: Choice::Second(kind),
-    }
-}
-
 // The values of a record of this shape, from what follows its code.
 fn values(shape: Shape, rest: &[u8]) -> Result<Record<Kind>, TableFault>
     requires { length rest.now ≡ long_of shape }
@@ -220,8 +128,14 @@ fn values(shape: Shape, rest: &[u8]) -> Result<Record<Kind>, TableFault>
             most: u32::from(number_at::<u16, 2>(rest, 2)),
         }),
         Shape::Line => read_line(rest),
-        Shape::Message => Ok(Record::Stream(first(read_stream::<Message>(rest)?))),
-        Shape::Bucket => Ok(Record::Stream(second(read_stream::<Bucket>(rest)?))),
+        Shape::Message => {
+            let stream = read_stream::<Message>(rest)?;
+            Ok(Record::Stream(with_kind(&stream, Choice::First(stream.kind))))
+        }
+        Shape::Bucket => {
+            let stream = read_stream::<Bucket>(rest)?;
+            Ok(Record::Stream(with_kind(&stream, Choice::Second(stream.kind))))
+        }
         Shape::Withdrawal => Ok(Record::Withdrawal(number_at(rest, 0))),
         Shape::Places => Ok(Record::Places {
             number: number_at(rest, 0),
