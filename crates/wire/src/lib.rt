@@ -13,6 +13,6 @@ pub use bytes::{BigEndian, number_at};
 pub use faults::{FileFault, placed};
 pub use filed::Filed;
 pub use opening::open;
-pub use records::{Kind, Record, Shape, read_record, read_shape};
+pub use records::{Kind, Record, Shape, UnknownCode};
 pub use streams::read_stream;
 pub use walkers::{Placed, Walker, walks_join};
