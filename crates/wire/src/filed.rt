@@ -40,7 +40,7 @@ impl Filed for Message {
     fn read(own: &[u8]) -> Result<Message, KindFault> {
         let period = number_at(own, 0);
         let jitter = number_at(own, 4);
-        let cells = u32::from(number_at::<u16, 2>(own, 8));
+        let cells = u32::from(number_at::<u16, _>(own, 8));
         let gap = number_at(own, 10);
         Message::new(period, jitter, cells, gap)
     }
@@ -58,7 +58,7 @@ impl Filed for Bucket {
     ghost filed = { bucket_of };
 
     fn read(own: &[u8]) -> Result<Bucket, KindFault> {
-        let burst = u32::from(number_at::<u16, 2>(own, 0));
+        let burst = u32::from(number_at::<u16, _>(own, 0));
         let interval = number_at(own, 2);
         Bucket::new(burst, interval)
     }

@@ -26,7 +26,7 @@ pub enum Shape {
 }
 
 // What a record says.
-#[derive(Clone, Copy)]
+#[derive(Clone, Copy, PartialEq, Eq, Debug)]
 pub enum Record<K> {
     // A hub with these switch times.
     Hub { least: u32, most: u32 },
@@ -84,8 +84,8 @@ impl Shape {
     {
         match self {
             Shape::Hub => Ok(Record::Hub {
-                least: u32::from(number_at::<u16, 2>(rest, 0)),
-                most: u32::from(number_at::<u16, 2>(rest, 2)),
+                least: u32::from(number_at::<u16, _>(rest, 0)),
+                most: u32::from(number_at::<u16, _>(rest, 2)),
             }),
             Shape::Line => read_line(rest),
             Shape::Message => {
@@ -99,7 +99,7 @@ impl Shape {
             Shape::Withdrawal => Ok(Record::Withdrawal(number_at(rest, 0))),
             Shape::Places => Ok(Record::Places {
                 number: number_at(rest, 0),
-                places: u32::from(number_at::<u16, 2>(rest, 1)),
+                places: u32::from(number_at::<u16, _>(rest, 1)),
             }),
         }
     }
@@ -125,9 +125,9 @@ fn read_line<K>(rest: &[u8]) -> Result<Record<K>, TableFault>
         number: number_at(rest, 0),
         line: Line {
             side,
-            cell_time: u32::from(number_at::<u16, 2>(rest, 2)),
-            propagation: u32::from(number_at::<u16, 2>(rest, 4)),
-            places: u32::from(number_at::<u16, 2>(rest, 6)),
+            cell_time: u32::from(number_at::<u16, _>(rest, 2)),
+            propagation: u32::from(number_at::<u16, _>(rest, 4)),
+            places: u32::from(number_at::<u16, _>(rest, 6)),
         },
     })
 }
