@@ -6,7 +6,7 @@ use crate::bytes::BigEndian;
 use crate::faults::FileFault;
 
 // The bytes of a record, and the place of its first length byte.
-#[derive(Clone, Copy)]
+#[derive(Clone, Copy, PartialEq, Eq, Debug)]
 pub struct Placed<'a> {
     pub at: usize,
     pub bytes: &'a [u8],
