@@ -10,11 +10,11 @@ pub trait Filed: Arrival + Sized {
     // The first byte of a record of this kind.
     const CODE: u8;
 
+    ghost CODE: { ℕ };
+
     // How many bytes the kind's own fields take; the fields that every stream has stand before them and do
     // not count.
     const LENGTH: usize;
-
-    ghost CODE: { ℕ };
 
     ghost LENGTH: { ℕ };
 
@@ -29,9 +29,9 @@ pub trait Filed: Arrival + Sized {
 impl Filed for Message {
     const CODE: u8 = 3;
 
-    const LENGTH: usize = 14;
-
     ghost CODE = { 3 };
+
+    const LENGTH: usize = 14;
 
     ghost LENGTH = { 14 };
 
@@ -49,9 +49,9 @@ impl Filed for Message {
 impl Filed for Bucket {
     const CODE: u8 = 4;
 
-    const LENGTH: usize = 6;
-
     ghost CODE = { 4 };
+
+    const LENGTH: usize = 6;
 
     ghost LENGTH = { 6 };
 
