@@ -29,8 +29,8 @@ impl<'a> Walker<'a> {
         Walker { rest, at: 1 }
     }
 
-    // The next record, or none at the file's end. Not an `Iterator`: at a record that is cut short it stays, so its
-    // items would have no end, and no `for` could take it.
+    // The next record, or none at the file's end. No `Iterator`: at a record that is cut short it stays, so its items
+    // would have no end, no `for` could take it, and each `while let` over it would need a `transpose()` more.
     pub fn next(&mut self) -> Result<Option<Placed<'a>>, FileFault>
         ensures { MatchResult result (λ o. MatchOption o (Ended self.old.at self.old.rest.now self.new.at self.new.rest.now) (λ p. Met self.old.at self.old.rest.now p.at p.bytes.now self.new.at self.new.rest.now)) (λ e. CutOff self.old.at self.old.rest.now e self.new.at self.new.rest.now) }
     {
