@@ -9,6 +9,7 @@ use Rattle.figures.specs.declared.streams.Stream.{Stream}
 use Rattle.admission.specs.declared.faults.TableFault.{TableFault}
 use Rattle.admission.specs.declared.faults.TableFault.TheVariants.{OutsideLimits}
 use Rattle.admission.specs.Faults as table
+use Rattle.admission.specs.Fields.{fields_within}
 use Rattle.wire.specs.declared.faults.FileFault.{FileFault}
 use Rattle.wire.specs.declared.faults.FileFault.TheVariants.{Malformed, Misplaced}
 use Rattle.wire.specs.declared.records.Record.{Record}
@@ -18,7 +19,7 @@ use Rattle.wire.specs.declared.records.Shape.TheVariants as shapes
 use Rattle.wire.specs.Bytes.{number_at}
 use Rattle.wire.specs.Faults.{place, with_place}
 use Rattle.wire.specs.Kinds.{message_of, bucket_of}
-use Rattle.wire.specs.Records.{coded, filing, long_of, shape_of, side_of, stream_of, values_of, within}
+use Rattle.wire.specs.Records.{coded, fields_of, filing, long_of, shape_of, side_of, stream_of, values_of, with_kind}
 use Rattle.wire.proofs.Joins.{never}
 use Rattle.planfile.specs.declared.phases.Phase.{Phase}
 use Rattle.planfile.specs.declared.phases.Phase.TheVariants.{Drafting, Running}
@@ -52,11 +53,7 @@ early_filing f (Err fault) h = h
 
 early_stream : {A : Type 0} (filed : List ℕ → Result A KindFault) (rest : List ℕ) → Early (stream_of filed rest)
 early_stream filed rest =
-    early_cond (within (number_at rest 0 2) (number_at rest 2 1) (number_at rest 3 1) (number_at rest 4 1) (number_at rest 5 4)) _ _
-    (early_kind
-    (λ kind. record { number = number_at rest 0 2; priority = number_at rest 2 1; inbound = number_at rest 3 1; outbound = number_at rest 4 1; deadline = number_at rest 5 4; kind = kind })
-    (filed (drop 9 rest)))
-    refl
+    early_cond (fields_within (fields_of rest)) _ _ (early_kind (λ kind. with_kind (λ _. kind) (fields_of rest)) (filed (drop 9 rest))) refl
 
 early_values : (shape : Shape) (rest : List ℕ) → Early (values_of shape rest)
 early_values shapes.Hub rest = tt

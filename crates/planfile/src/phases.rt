@@ -2,7 +2,7 @@
 ghost use Rattle.std.specs.Prelude.{◌≡◌};
 ghost use Rattle.planfile.specs.Stages.{admits, read_in};
 
-use wire::{FileFault, Kind, Record, Shape, read_record, read_shape};
+use wire::{FileFault, Kind, Placed, Record, Shape};
 
 #[derive(Clone, Copy)]
 pub enum Phase {
@@ -34,9 +34,10 @@ impl Phase {
 pub fn read_in(phase: Phase, at: usize, bytes: &[u8]) -> Result<Record<Kind>, FileFault>
     ensures { result ≡ read_in phase at bytes.now }
 {
-    let shape = read_shape(at, bytes)?;
+    let record = Placed { at, bytes };
+    let shape = record.shape()?;
     if !phase.admits(shape) {
         return Err(FileFault::Misplaced(at));
     }
-    read_record(at, bytes)
+    record.read()
 }

@@ -1,5 +1,6 @@
 -- Walking and joining undo each other.
-use Rattle.std.proofs.Common.{◌≡◌, ℕ, zero, suc, ◌+◌, ◌/◌, ◌%◌, ◌<◌, ◌≤◌, Bool, true, false, cond, leb, List, [], ◌∷◌, ◌++◌, length, take, drop, sym, refl, ap, ◌∙◌, subst, arith, length-append, take-append-drop, length-take, rules, leb-true}
+use Rattle.std.proofs.Common.{◌≡◌, ℕ, zero, suc, ◌+◌, ◌/◌, ◌%◌, ◌<◌, ◌≤◌, Bool, true, false, cond, leb, List, [], ◌∷◌, ◌++◌, length, take, drop, sym, refl, ap, ◌∙◌, subst, arith, length-append, take-append-drop, rules, leb-true}
+use Rattle.std.proofs.lemmas.List.{length-take-le}
 use lib.Seq.{take-append_seam, drop-append_seam}
 use Rattle.wire.specs.Bytes.{be}
 use Rattle.wire.specs.Walks.{end, cut, piece, step_of, framed, joined, PlacedFrom, Walk, AllBytes, AllFit, WalkJoins}
@@ -39,13 +40,10 @@ empty at [] e = refl
 empty at (a ∷ []) e = never (cc)
 empty at (a ∷ b ∷ rest) e = let z : ⊥ = empty_if (leb (be (a ∷ b ∷ [])) (length rest)) at (be (a ∷ b ∷ [])) rest e in absurd z
 
-length_met : (n : ℕ) (rest front : List ℕ) → n ≤ length rest → front ≡ take n rest → length front ≡ n
-length_met n rest front h e = ap length e ∙ length-take n rest ∙ (search rules)
-
 frames : (a b : ℕ) (rest front left : List ℕ) → a < 256 → b < 256 → be (a ∷ b ∷ []) ≤ length rest → front ≡ take (be (a ∷ b ∷ [])) rest → left ≡ drop (be (a ∷ b ∷ [])) rest
     → a ∷ b ∷ rest ≡ framed front ++ left
 frames a b rest front left high low h f l =
-    let n = length_met (be (a ∷ b ∷ [])) rest front h f in
+    let n : length front ≡ be (a ∷ b ∷ []) = ap length f ∙ length-take-le _ _ h in
     let q : length front / 256 ≡ a = omega arith in
     let m : length front % 256 ≡ b = omega arith in
     let r : front ++ left ≡ rest = rw (f, l) (take-append-drop (be (a ∷ b ∷ [])) rest) in
@@ -82,7 +80,7 @@ fit at bytes (r ∷ rs) all walk =
     let each : AllBytes (p.high ∷ p.low ∷ p.rest) = subst AllBytes p.is all in
     let high : p.high < 256 = each.0 in
     let low : p.low < 256 = each.1.0 in
-    let n = length_met (be (p.high ∷ p.low ∷ [])) p.rest r.1 p.fits p.fore in
+    let n : length r.1 ≡ be (p.high ∷ p.low ∷ []) = ap length p.fore ∙ length-take-le _ _ p.fits in
     let left : AllBytes walk.0 = rw p.aft (all_after (be (p.high ∷ p.low ∷ [])) p.rest each.1.1) in
     let short : length r.1 < 65536 = omega arith in
     let front : AllBytes r.1 = rw p.fore (all_before (be (p.high ∷ p.low ∷ [])) p.rest each.1.1) in
@@ -119,7 +117,7 @@ forth at (r ∷ rs) placed =
     )
 
 same_pair : (r s : ℕ × List ℕ) → s.0 ≡ r.0 → s.1 ≡ r.1 → r ≡ s
-same_pair r s a b = ap (λ x. (x, r.1)) (sym a) ∙ ap (λ y. (s.0, y)) (sym b)
+same_pair (x, xs) (y, ys) a b = cc
 
 alone : (at : ℕ) (bytes : List ℕ) (records others : List (ℕ × List ℕ)) → Walk at bytes records → Walk at bytes others → records ≡ others
 alone at bytes [] [] v w = refl

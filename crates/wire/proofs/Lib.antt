@@ -1,5 +1,1 @@
-mod Numbers
-mod Said
-mod Openings
-mod Pieces
 pub mod Joins

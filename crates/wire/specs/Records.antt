@@ -1,5 +1,5 @@
 -- What the bytes of a record say: its shape, by its code and its length, and then its values.
-use Rattle.std.specs.Prelude.{ℕ, Bool, cond, ◌&&◌, List, [], ◌∷◌, length, drop, Some, None, Ok, Err, Option, Result, ◌==◌, nat_le}
+use Rattle.std.specs.Prelude.{ℕ, cond, List, [], ◌∷◌, length, drop, Some, None, Ok, Err, Option, Result, ◌==◌}
 use Rattle.arrivals.specs.declared.buckets.Bucket.{Bucket}
 use Rattle.arrivals.specs.declared.choices.Choice.{Choice}
 use Rattle.arrivals.specs.declared.choices.Choice.TheVariants.{First, Second}
@@ -11,6 +11,7 @@ use Rattle.figures.specs.declared.streams.Stream.{Stream}
 use Rattle.admission.specs.declared.faults.TableFault.{TableFault}
 use Rattle.admission.specs.declared.faults.TableFault.TheVariants.{OutsideLimits}
 use Rattle.admission.specs.Faults.{of_kind}
+use Rattle.admission.specs.Fields.{fields_within}
 use Rattle.wire.specs.declared.faults.FileFault.{FileFault}
 use Rattle.wire.specs.declared.faults.FileFault.TheVariants.{Malformed}
 use Rattle.wire.specs.declared.records.Record.{Record}
@@ -20,7 +21,6 @@ use Rattle.wire.specs.declared.records.Shape.TheVariants as shapes
 use Rattle.wire.specs.Bytes.{number_at}
 use Rattle.wire.specs.Faults.{with_place}
 use Rattle.wire.specs.Kinds.{message_of, bucket_of}
-use Rattle.wire.specs.Limits.{last_stream, last_priority, last_line, latest_deadline}
 
 -- the shape that a record's first byte, its code, stands for
 abbrev pub coded : ℕ → Option Shape
@@ -61,24 +61,24 @@ line_of rest =
       | None ↦ Err OutsideLimits
     ]
 
--- each field that every stream has keeps its limits
-abbrev pub within : ℕ → ℕ → ℕ → ℕ → ℕ → Bool
-within number priority inbound outbound deadline =
-    nat_le 1 number && nat_le number last_stream && nat_le 1 priority && nat_le priority last_priority && nat_le 1 inbound && nat_le inbound last_line && nat_le 1 outbound && nat_le outbound last_line && nat_le 1 deadline && nat_le deadline latest_deadline
-
--- a stream: its number, its priority, its lines, its deadline, and then the own bytes of its kind
-abbrev pub stream_of : {K : Type 0} → (List ℕ → Result K KindFault) → List ℕ → Result (Stream K) TableFault
-stream_of filed rest =
-    cond (within (number_at rest 0 2) (number_at rest 2 1) (number_at rest 3 1) (number_at rest 4 1) (number_at rest 5 4))
-    (elim (filed (drop 9 rest)) [
-      | Ok kind ↦ Ok (record { number = number_at rest 0 2; priority = number_at rest 2 1; inbound = number_at rest 3 1; outbound = number_at rest 4 1; deadline = number_at rest 5 4; kind = kind })
-      | Err fault ↦ Err (of_kind fault)
-    ])
-    (Err OutsideLimits)
+-- the fields that every stream has: its number, its priority, its lines, its deadline
+abbrev pub fields_of : List ℕ → Stream Unit
+fields_of rest =
+    record { number = number_at rest 0 2; priority = number_at rest 2 1; inbound = number_at rest 3 1; outbound = number_at rest 4 1; deadline = number_at rest 5 4; kind = tt }
 
 abbrev pub with_kind : {F K : Type 0} → (F → K) → Stream F → Stream K
 with_kind f s =
     record { number = s.number; priority = s.priority; inbound = s.inbound; outbound = s.outbound; deadline = s.deadline; kind = f s.kind }
+
+-- a stream, where its fields keep their limits: then its kind is what the own bytes say
+abbrev pub stream_of : {K : Type 0} → (List ℕ → Result K KindFault) → List ℕ → Result (Stream K) TableFault
+stream_of filed rest =
+    cond (fields_within (fields_of rest))
+    (elim (filed (drop 9 rest)) [
+      | Ok kind ↦ Ok (with_kind (λ _. kind) (fields_of rest))
+      | Err fault ↦ Err (of_kind fault)
+    ])
+    (Err OutsideLimits)
 
 abbrev pub filing : {F K : Type 0} → (F → K) → Result (Stream F) TableFault → Result (Record K) TableFault
 filing f (Ok stream) = Ok (said.Stream (with_kind f stream))

@@ -1,44 +1,49 @@
 // Numbers from bytes, the most significant byte first.
-ghost use Rattle.std.specs.Prelude.{◌≡◌, ℕ, ◌+◌, ◌≤◌, [], ◌∷◌, length};
+ghost use Rattle.std.specs.Prelude.{◌≡◌, ℕ, ◌+◌, ◌≤◌, length};
 ghost use Rattle.wire.specs.Bytes.{be, number_at};
 
-pub fn be16(a: u8, b: u8) -> u16
-    ensures { result ≡ be (a ∷ b ∷ []) }
-{
-    u16::from_be_bytes([a, b])
+// A number that a file has in N bytes.
+pub trait BigEndian<const N: usize>: Sized {
+    ghost value: { Self → ℕ };
+
+    fn from_bytes(bytes: &[u8; N]) -> Self
+        ensures { value result ≡ be bytes.now };
 }
 
-pub fn be32(a: u8, b: u8, c: u8, d: u8) -> u32
-    ensures { result ≡ be (a ∷ b ∷ c ∷ d ∷ []) }
-{
-    u32::from_be_bytes([a, b, c, d])
+impl BigEndian<1> for u8 {
+    ghost value = { λ n. n };
+
+    fn from_bytes(bytes: &[u8; 1]) -> u8 {
+        let [a] = *bytes;
+        a
+    }
 }
 
-// The number of the byte at this place.
-pub fn one_at(bytes: &[u8], place: usize) -> u8
-    requires { place + 1 ≤ length bytes.now }
-    ensures { result ≡ number_at bytes.now place 1 }
-{
-    bytes[place]
+impl BigEndian<2> for u16 {
+    ghost value = { λ n. n };
+
+    fn from_bytes(bytes: &[u8; 2]) -> u16 {
+        let [a, b] = *bytes;
+        u16::from_be_bytes([a, b])
+    }
 }
 
-// The number of the two bytes from this place on.
-pub fn two_at(bytes: &[u8], place: usize) -> u16
-    requires { place + 2 ≤ length bytes.now }
-    ensures { result ≡ number_at bytes.now place 2 }
-{
-    be16(bytes[place], bytes[place + 1])
+impl BigEndian<4> for u32 {
+    ghost value = { λ n. n };
+
+    fn from_bytes(bytes: &[u8; 4]) -> u32 {
+        let [a, b, c, d] = *bytes;
+        u32::from_be_bytes([a, b, c, d])
+    }
 }
 
-// The number of the four bytes from this place on.
-pub fn four_at(bytes: &[u8], place: usize) -> u32
-    requires { place + 4 ≤ length bytes.now }
-    ensures { result ≡ number_at bytes.now place 4 }
+// The number of the N bytes from this place on.
+pub fn number_at<T: BigEndian<N>, const N: usize>(bytes: &[u8], place: usize) -> T
+    requires { place + N ≤ length bytes.now }
+    ensures { T.value result ≡ number_at bytes.now place N }
 {
-    be32(
-        bytes[place],
-        bytes[place + 1],
-        bytes[place + 2],
-        bytes[place + 3],
-    )
+    let Some(own) = bytes[place..].first_chunk() else {
+        unreachable!()
+    };
+    T::from_bytes(own)
 }

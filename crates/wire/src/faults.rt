@@ -84,8 +84,5 @@ impl From<(usize, TableFault)> for FileFault {
 pub fn placed<T>(at: usize, res: Result<T, TableFault>) -> Result<T, FileFault>
     ensures { result ≡ with_place at res }
 {
-    match res {
-        Ok(value) => Ok(value),
-        Err(fault) => Err(FileFault::Table { at, fault }),
-    }
+    res.map_err(|fault| FileFault::Table { at, fault })
 }

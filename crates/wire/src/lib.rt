@@ -6,11 +6,13 @@ mod faults;
 mod filed;
 mod opening;
 mod records;
+mod streams;
 mod walkers;
 
-pub use bytes::{be16, be32};
+pub use bytes::{BigEndian, number_at};
 pub use faults::{FileFault, placed};
 pub use filed::Filed;
 pub use opening::open;
-pub use records::{Kind, Record, Shape, read_record, read_shape, read_stream};
+pub use records::{Kind, Record, Shape, UnknownCode};
+pub use streams::read_stream;
 pub use walkers::{Placed, Walker, walks_join};

@@ -16,7 +16,7 @@ pub fn open(bytes: &[u8]) -> Result<&[u8], FileFault>
         return Err(FileFault::TooLong);
     }
     match bytes {
-        [version, rest @ ..] if *version == VERSION => Ok(rest),
+        [VERSION, rest @ ..] => Ok(rest),
         _ => Err(FileFault::Version),
     }
 }

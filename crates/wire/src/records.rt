@@ -1,11 +1,12 @@
 // The records of a plan file: their shapes, and the values that they hold.
-ghost use Rattle.std.specs.Prelude.{◌≡◌, ℕ, ◌+◌, ◌≤◌, length};
-ghost use Rattle.arrivals.specs.declared.choices.Choice.TheVariants.{First, Second};
-ghost use Rattle.wire.specs.Records.{coded, long_of, shape_of, side_of, line_of, within, stream_of, with_kind, values_of, record_of};
+ghost use Rattle.std.specs.Prelude.{◌≡◌, length, Some, None, MatchResult};
+ghost use Rattle.wire.specs.Records.{coded, long_of, shape_of, side_of, line_of, values_of, record_of};
 
-use crate::bytes::{four_at, one_at, two_at};
+use crate::bytes::number_at;
 use crate::faults::{FileFault, placed};
 use crate::filed::Filed;
+use crate::streams::{STREAM_BYTES, read_stream, with_kind};
+use crate::walkers::Placed;
 use admission::TableFault;
 use arrivals::{Bucket, Choice, Message};
 use figures::{Line, Side, Stream};
@@ -25,7 +26,7 @@ pub enum Shape {
 }
 
 // What a record says.
-#[derive(Clone, Copy)]
+#[derive(Clone, Copy, PartialEq, Eq, Debug)]
 pub enum Record<K> {
     // A hub with these switch times.
     Hub { least: u32, most: u32 },
@@ -39,31 +40,29 @@ pub enum Record<K> {
     Places { number: u8, places: u32 },
 }
 
-// How many bytes the fields take that every stream has.
-const STREAM_BYTES: usize = 9;
+// A byte that is no shape's code.
+#[derive(Clone, Copy, PartialEq, Eq, Debug)]
+pub struct UnknownCode(pub u8);
 
-const LAST_STREAM: u16 = 60_000;
+impl TryFrom<u8> for Shape {
+    type Error = UnknownCode;
 
-const LAST_LINE: u8 = 16;
+    ghost try_from_gives = { λ code r. MatchResult r (λ shape. coded code ≡ Some shape) (λ e. (coded code ≡ None) × (e.0 ≡ code)) };
 
-const LATEST_DEADLINE: u32 = 500_000;
-
-impl Shape {
-    // The shape that a record's first byte stands for.
-    fn coded(code: u8) -> Option<Shape>
-        ensures { result ≡ coded code }
-    {
+    fn try_from(code: u8) -> Result<Shape, UnknownCode> {
         match code {
-            1 => Some(Shape::Hub),
-            2 => Some(Shape::Line),
-            Message::CODE => Some(Shape::Message),
-            Bucket::CODE => Some(Shape::Bucket),
-            5 => Some(Shape::Withdrawal),
-            6 => Some(Shape::Places),
-            _ => None,
+            1 => Ok(Shape::Hub),
+            2 => Ok(Shape::Line),
+            Message::CODE => Ok(Shape::Message),
+            Bucket::CODE => Ok(Shape::Bucket),
+            5 => Ok(Shape::Withdrawal),
+            6 => Ok(Shape::Places),
+            _ => Err(UnknownCode(code)),
         }
     }
+}
 
+impl Shape {
     // How many bytes follow the code.
     fn length(&self) -> usize
         ensures { result ≡ long_of self.now }
@@ -77,27 +76,36 @@ impl Shape {
             Shape::Places => 3,
         }
     }
-}
 
-// The shape of the record at this place, from its code and its length.
-pub fn read_shape(at: usize, bytes: &[u8]) -> Result<Shape, FileFault>
-    ensures { result ≡ shape_of at bytes.now }
-{
-    match bytes {
-        [] => Err(FileFault::Malformed(at)),
-        [code, rest @ ..] => match Shape::coded(*code) {
-            Some(shape) => {
-                if rest.len() == shape.length() {
-                    Ok(shape)
-                } else {
-                    Err(FileFault::Malformed(at))
-                }
+    // The values of a record of this shape, from what follows its code.
+    fn values(&self, rest: &[u8]) -> Result<Record<Kind>, TableFault>
+        requires { length rest.now ≡ long_of self.now }
+        ensures { result ≡ values_of self.now rest.now }
+    {
+        match self {
+            Shape::Hub => Ok(Record::Hub {
+                least: u32::from(number_at::<u16, _>(rest, 0)),
+                most: u32::from(number_at::<u16, _>(rest, 2)),
+            }),
+            Shape::Line => read_line(rest),
+            Shape::Message => {
+                let stream = read_stream::<Message>(rest)?;
+                Ok(Record::Stream(with_kind(&stream, Choice::First(stream.kind))))
             }
-            None => Err(FileFault::Malformed(at)),
-        },
+            Shape::Bucket => {
+                let stream = read_stream::<Bucket>(rest)?;
+                Ok(Record::Stream(with_kind(&stream, Choice::Second(stream.kind))))
+            }
+            Shape::Withdrawal => Ok(Record::Withdrawal(number_at(rest, 0))),
+            Shape::Places => Ok(Record::Places {
+                number: number_at(rest, 0),
+                places: u32::from(number_at::<u16, _>(rest, 1)),
+            }),
+        }
     }
 }
 
+// Not `TryFrom<u8>` for `Side`, which only the crate of `Side` may have; a type around the byte is no plainer.
 fn side(byte: u8) -> Option<Side>
     ensures { result ≡ side_of byte }
 {
@@ -112,129 +120,38 @@ fn read_line<K>(rest: &[u8]) -> Result<Record<K>, TableFault>
     requires { length rest.now ≡ 8 }
     ensures { result ≡ line_of rest.now }
 {
-    let Some(side) = side(one_at(rest, 1)) else {
-        return Err(TableFault::OutsideLimits);
-    };
+    let side = side(number_at(rest, 1)).ok_or(TableFault::OutsideLimits)?;
     Ok(Record::Line {
-        number: one_at(rest, 0),
+        number: number_at(rest, 0),
         line: Line {
             side,
-            cell_time: u32::from(two_at(rest, 2)),
-            propagation: u32::from(two_at(rest, 4)),
-            places: u32::from(two_at(rest, 6)),
+            cell_time: u32::from(number_at::<u16, _>(rest, 2)),
+            propagation: u32::from(number_at::<u16, _>(rest, 4)),
+            places: u32::from(number_at::<u16, _>(rest, 6)),
         },
     })
 }
 
-// Whether the fields that every stream has keep their limits.
-fn are_within(number: u16, priority: u8, inbound: u8, outbound: u8, deadline: u32) -> bool
-    ensures { result ≡ within number priority inbound outbound deadline }
-{
-    1 <= number
-        && number <= LAST_STREAM
-        && 1 <= priority
-        && 1 <= inbound
-        && inbound <= LAST_LINE
-        && 1 <= outbound
-        && outbound <= LAST_LINE
-        && 1 <= deadline
-        && deadline <= LATEST_DEADLINE
-}
-
-// A stream of the kind F, from what follows the code: first the fields that every stream has, then those of
-// its kind.
-pub fn read_stream<F: Filed>(rest: &[u8]) -> Result<Stream<F>, TableFault>
-    requires { length rest.now ≡ 9 + F.Filed.long }
-    ensures { result ≡ stream_of F.Filed.filed rest.now }
-{
-    let number = two_at(rest, 0);
-    let priority = one_at(rest, 2);
-    let inbound = one_at(rest, 3);
-    let outbound = one_at(rest, 4);
-    let deadline = four_at(rest, 5);
-    if !are_within(number, priority, inbound, outbound, deadline) {
-        return Err(TableFault::OutsideLimits);
+impl Placed<'_> {
+    // The record's shape, from its code and its length.
+    pub fn shape(&self) -> Result<Shape, FileFault>
+        ensures { result ≡ shape_of self.now.at self.now.bytes.now }
+    {
+        let malformed = FileFault::Malformed(self.at);
+        let (code, rest) = self.bytes.split_first().ok_or(malformed)?;
+        let shape = Shape::try_from(*code).map_err(|_| malformed)?;
+        if rest.len() == shape.length() {
+            Ok(shape)
+        } else {
+            Err(malformed)
+        }
     }
-    let (_, own) = rest.split_at(STREAM_BYTES);
-    let kind = F::read(own)?;
-    Ok(Stream {
-        number,
-        priority,
-        inbound,
-        outbound,
-        deadline,
-        kind,
-    })
-}
 
-fn first<A, B>(stream: Stream<A>) -> Stream<Choice<A, B>>
-    ensures { result ≡ with_kind First stream }
-{
-    let Stream {
-        number,
-        priority,
-        inbound,
-        outbound,
-        deadline,
-        kind,
-    } = stream;
-    Stream {
-        number,
-        priority,
-        inbound,
-        outbound,
-        deadline,
-        kind: Choice::First(kind),
+    // What the record says: its shape first, then its values.
+    pub fn read(&self) -> Result<Record<Kind>, FileFault>
+        ensures { result ≡ record_of self.now.at self.now.bytes.now }
+    {
+        let shape = self.shape()?;
+        placed(self.at, shape.values(&self.bytes[1..]))
     }
-}
-
-fn second<A, B>(stream: Stream<B>) -> Stream<Choice<A, B>>
-    ensures { result ≡ with_kind Second stream }
-{
-    let Stream {
-        number,
-        priority,
-        inbound,
-        outbound,
-        deadline,
-        kind,
-    } = stream;
-    Stream {
-        number,
-        priority,
-        inbound,
-        outbound,
-        deadline,
-        kind: Choice::Second(kind),
-    }
-}
-
-// The values of a record of this shape, from what follows its code.
-fn values(shape: Shape, rest: &[u8]) -> Result<Record<Kind>, TableFault>
-    requires { length rest.now ≡ long_of shape }
-    ensures { result ≡ values_of shape rest.now }
-{
-    match shape {
-        Shape::Hub => Ok(Record::Hub {
-            least: u32::from(two_at(rest, 0)),
-            most: u32::from(two_at(rest, 2)),
-        }),
-        Shape::Line => read_line(rest),
-        Shape::Message => Ok(Record::Stream(first(read_stream::<Message>(rest)?))),
-        Shape::Bucket => Ok(Record::Stream(second(read_stream::<Bucket>(rest)?))),
-        Shape::Withdrawal => Ok(Record::Withdrawal(two_at(rest, 0))),
-        Shape::Places => Ok(Record::Places {
-            number: one_at(rest, 0),
-            places: u32::from(two_at(rest, 1)),
-        }),
-    }
-}
-
-// What the record at this place says: its shape first, then its values.
-pub fn read_record(at: usize, bytes: &[u8]) -> Result<Record<Kind>, FileFault>
-    ensures { result ≡ record_of at bytes.now }
-{
-    let shape = read_shape(at, bytes)?;
-    let [_, rest @ ..] = bytes else { unreachable() };
-    placed(at, values(shape, rest))
 }

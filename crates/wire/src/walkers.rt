@@ -2,11 +2,11 @@
 ghost use Rattle.std.specs.Prelude.{◌≡◌, ℕ, ◌+◌, ◌^◌, ◌<◌, ◌≤◌, length, MatchOption, MatchResult};
 ghost use Rattle.wire.specs.Walks.{Ended, Met, CutOff, WalkJoins};
 
-use crate::bytes::be16;
+use crate::bytes::BigEndian;
 use crate::faults::FileFault;
 
 // The bytes of a record, and the place of its first length byte.
-#[derive(Clone, Copy)]
+#[derive(Clone, Copy, PartialEq, Eq, Debug)]
 pub struct Placed<'a> {
     pub at: usize,
     pub bytes: &'a [u8],
@@ -29,31 +29,27 @@ impl<'a> Walker<'a> {
         Walker { rest, at: 1 }
     }
 
-    // The next record, or none at the file's end.
+    // The next record, or none at the file's end. No `Iterator`: at a record that is cut short it stays, so its items
+    // would have no end, no `for` could take it, and each `while let` over it would need a `transpose()` more.
     pub fn next(&mut self) -> Result<Option<Placed<'a>>, FileFault>
         ensures { MatchResult result (λ o. MatchOption o (Ended self.old.at self.old.rest.now self.new.at self.new.rest.now) (λ p. Met self.old.at self.old.rest.now p.at p.bytes.now self.new.at self.new.rest.now)) (λ e. CutOff self.old.at self.old.rest.now e self.new.at self.new.rest.now) }
     {
         let at = self.at;
         match self.rest {
             [] => Ok(None),
+            [_] => Err(FileFault::CutShort(at)),
             [high, low, rest @ ..] => {
-                let n = usize::from(be16(*high, *low));
-                if n > rest.len() {
-                    return Err(FileFault::CutShort(at));
-                }
-                let (bytes, rest) = rest.split_at(n);
+                let n = usize::from(u16::from_bytes(&[*high, *low]));
+                let (bytes, rest) = rest.split_at_checked(n).ok_or(FileFault::CutShort(at))?;
                 self.rest = rest;
                 self.at = at + 2 + n;
                 Ok(Some(Placed { at, bytes }))
             }
-            [_] => Err(FileFault::CutShort(at)),
         }
     }
 }
 
 // The records of a file, joined again, are the file, and no two lists of records are one file.
-pub fn walks_join() -> u8
+pub fn walks_join()
     ensures { WalkJoins }
-{
-    0
-}
+{}
