@@ -14,11 +14,7 @@ pub fn room(entries: &[Entry]) -> usize
     requires { length entries.now ≤ 2 ^ 32 }
     ensures { result ≡ length (listing_text entries.now) }
 {
-    let mut sum = 0;
-    for entry in entries {
-        sum += entry.room();
-    }
-    sum
+    entries.iter().map(Entry::room).sum()
 }
 
 // Whether the listing takes no more bytes than these.
