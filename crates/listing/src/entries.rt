@@ -2,6 +2,7 @@
 ghost use Rattle.std.specs.Prelude.{◌≡◌, ◌≤◌, length};
 ghost use Rattle.listing.specs.Laid.{laid};
 ghost use Rattle.listing.specs.Text.{line_text};
+ghost use Rattle.listing.specs.declared.entries.Entry.TheVariants.{Done};
 
 use crate::lines::Line;
 
@@ -9,17 +10,17 @@ use crate::lines::Line;
 pub enum Entry {
     // The record at this byte was carried out.
     Done {
-        at: u32,
+        at: usize,
     },
     // It was refused, by this number, and the refusal names this stream or line.
     Refused {
-        at: u32,
+        at: usize,
         number: u8,
         party: u16,
     },
     // Reading stopped at this byte, by the refusal of this number.
     Stopped {
-        at: u32,
+        at: usize,
         number: u8,
     },
     // The delays of a stream at its two ports, and its total.
@@ -35,6 +36,15 @@ pub enum Entry {
         need: u32,
         places: u32,
     },
+}
+
+// What a fixed vector of entries holds at places that are not in use.
+impl Default for Entry {
+    ghost is_default = { λ e. e ≡ Done 0 };
+
+    fn default() -> Entry {
+        Entry::Done { at: 0 }
+    }
 }
 
 impl Entry {

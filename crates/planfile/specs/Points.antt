@@ -1,5 +1,5 @@
 -- How far a file is read: the lines noted by then, the stage of the plan, the place, and the bytes from there on.
-use Rattle.std.specs.Prelude.{◌≡◌, ℕ, ◌+◌, ◌*◌, ◌<◌, ◌≤◌, true, cond, List, [], ◌∷◌, ◌++◌, length, take, Some, None, Ok, Err, Option, Result}
+use Rattle.std.specs.Prelude.{◌≡◌, ℕ, ◌+◌, ◌*◌, ◌<◌, ◌≤◌, true, cond, List, [], ◌∷◌, ◌++◌, length, Some, None, Ok, Err, Option, Result}
 use Rattle.listing.specs.declared.entries.Entry.{Entry}
 use Rattle.listing.specs.declared.entries.Entry.TheVariants.{Done}
 use Rattle.records.specs.States.{State}
@@ -19,7 +19,7 @@ use Rattle.planfile.specs.Stages.{Stage, Taken, finished}
 
 -- the lines that a journal holds
 abbrev pub noted : Journal → List Entry
-noted journal = take journal.len journal.entries
+noted journal = journal.entries.items
 
 -- what the answer to a record leaves to be told of it further up: a fault of the input
 abbrev pub onward : Result (Unit {0}) FileFault → Result (Unit {0}) FileFault

@@ -10,7 +10,7 @@ use crate::readers::{read_lines, run};
 use crate::stages::open_draft;
 use crate::told::list_figures;
 use figures::Stream;
-use listing::{Entry, NoRoom, write_listing};
+use listing::{Entry, write_listing};
 use network::Draft;
 use wire::{FileFault, Kind, Walker, open};
 
@@ -47,9 +47,7 @@ fn read_plan(
         return Ok(());
     };
     let mut draft = open_draft(first.at, first.bytes)?;
-    journal.push(Entry::Done {
-        at: first.at as u32,
-    });
+    journal.push(Entry::Done { at: first.at });
     read_lines(&mut walker, &mut draft, journal)?;
     finish(walker, draft, memory, journal)
 }
@@ -61,7 +59,7 @@ fn list_entries(bytes: &[u8], memory: &mut [Stream<Kind>]) -> Journal
     let mut journal = Journal::new();
     if let Err(fault) = read_plan(bytes, memory, &mut journal) {
         journal.push(Entry::Stopped {
-            at: fault.place() as u32,
+            at: fault.place(),
             number: fault.number(),
         });
     }
@@ -81,8 +79,5 @@ pub fn list_plan(
     ensures roomy { longest_listing ≤ length out.old → is_ok result ≡ true }
 {
     let journal = list_entries(bytes, memory);
-    match write_listing(journal.entries(), out) {
-        Ok(n) => Ok(n),
-        Err(NoRoom) => Err(FileFault::NoRoom),
-    }
+    write_listing(journal.entries(), out).map_err(|_| FileFault::NoRoom)
 }

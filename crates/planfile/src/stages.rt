@@ -1,8 +1,7 @@
 // One record at each stage of a plan: the hub, a line of the draft, a call on the network.
-ghost use Rattle.std.specs.Prelude.{◌≡◌, ℕ, ◌<◌, ◌≤◌, true, length, Ok, Err, MatchResult};
+ghost use Rattle.std.specs.Prelude.{◌≡◌, ℕ, ◌<◌, true, length, Ok, Err, MatchResult};
 ghost use Rattle.figures.specs.Tables.{Passing};
 ghost use Rattle.records.specs.Records.{table, state_of};
-ghost use Rattle.wire.specs.Limits.{longest_file};
 ghost use Rattle.planfile.specs.Kinds.{plan_alpha};
 ghost use Rattle.planfile.specs.Points.{Took, Opens, noted};
 ghost use Rattle.planfile.specs.declared.phases.Phase.TheVariants.{Drafting};
@@ -20,7 +19,7 @@ pub fn open_draft(at: usize, bytes: &[u8]) -> Result<Draft, FileFault>
     ensures { MatchResult result (λ draft. Opens at bytes.now (Ok draft.rack)) (λ fault. Opens at bytes.now (Err fault)) }
 {
     let Record::Hub { least, most } = read_in(Phase::Opening, at, bytes)? else {
-        unreachable()
+        unreachable!()
     };
     placed(at, Draft::new(least, most))
 }
@@ -45,7 +44,7 @@ fn call(network: &mut Network<Kind>, what: Record<Kind>) -> Result<(), TableFaul
         Record::Stream(stream) => network.request(stream),
         Record::Withdrawal(number) => network.withdraw(number),
         Record::Places { number, places } => network.set_places(number, places),
-        Record::Hub { .. } | Record::Line { .. } => unreachable(),
+        Record::Hub { .. } | Record::Line { .. } => unreachable!(),
     }
 }
 
@@ -56,7 +55,7 @@ pub fn take_call(
     at: usize,
     bytes: &[u8],
 ) -> Result<(), FileFault>
-    requires { (length (noted journal.old) < 1679) × (at ≤ longest_file) }
+    requires { length (noted journal.old) < 1679 }
     ensures took { Took (networked (state_of network.old.records)) (noted journal.old) at bytes.now result (networked (state_of network.new.records)) (noted journal.new) }
     ensures passing { Passing plan_alpha network.old.records.rack (table network.old.records) → Passing plan_alpha network.new.records.rack (table network.new.records) }
 {
