@@ -2,7 +2,7 @@
 ghost use Rattle.std.specs.Prelude.{◌≡◌};
 ghost use Rattle.planfile.specs.Stages.{admits, read_in};
 
-use wire::{FileFault, Kind, Record, Shape, read_record, read_shape};
+use wire::{FileFault, Kind, Placed, Record, Shape, read_record, read_shape};
 
 #[derive(Clone, Copy)]
 pub enum Phase {
@@ -19,24 +19,23 @@ impl Phase {
     fn admits(&self, shape: Shape) -> bool
         ensures { result ≡ admits self.now shape }
     {
-        match (shape, self) {
-            (Shape::Hub, Phase::Opening) => true,
-            (Shape::Hub, _) => false,
-            (Shape::Line, Phase::Drafting) => true,
-            (Shape::Line, _) => false,
-            (_, Phase::Opening) => false,
-            (_, _) => true,
+        match shape {
+            Shape::Hub => matches!(self, Phase::Opening),
+            Shape::Line => matches!(self, Phase::Drafting),
+            Shape::Message | Shape::Bucket | Shape::Withdrawal | Shape::Places => {
+                !matches!(self, Phase::Opening)
+            }
         }
     }
-}
 
-// What the record at this place says, if it may stand there.
-pub fn read_in(phase: Phase, at: usize, bytes: &[u8]) -> Result<Record<Kind>, FileFault>
-    ensures { result ≡ read_in phase at bytes.now }
-{
-    let shape = read_shape(at, bytes)?;
-    if !phase.admits(shape) {
-        return Err(FileFault::Misplaced(at));
+    // What the record says, if it may stand here.
+    pub fn read(&self, piece: Placed) -> Result<Record<Kind>, FileFault>
+        ensures { result ≡ read_in self.now piece.entry.at piece.entry.bytes.now }
+    {
+        let shape = read_shape(piece.at, piece.bytes)?;
+        if !self.admits(shape) {
+            return Err(FileFault::Misplaced(piece.at));
+        }
+        read_record(piece.at, piece.bytes)
     }
-    read_record(at, bytes)
 }

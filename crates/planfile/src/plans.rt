@@ -46,7 +46,7 @@ fn read_plan(
     let Some(first) = walker.next()? else {
         return Ok(());
     };
-    let mut draft = open_draft(first.at, first.bytes)?;
+    let mut draft = open_draft(first)?;
     journal.push(Entry::Done { at: first.at });
     read_lines(&mut walker, &mut draft, journal)?;
     finish(walker, draft, memory, journal)

@@ -1,4 +1,4 @@
-use Rattle.std.proofs.Common.{◌≡◌, ℕ, ◌≤◌, List, min, length, Ok, Err, Result, sym, refl, ap, ◌∙◌, subst, arith, rules, MatchResult}
+use Rattle.std.proofs.Common.{◌≡◌, ℕ, ◌≤◌, List, min, length, Ok, Err, Result, sym, refl, ◌∙◌, subst, arith, rules, MatchResult}
 use borrow.Author.Tests.{tests}
 use Rattle.figures.specs.Limits.{most_streams}
 use Rattle.listing.specs.Laid.{Wrote}
