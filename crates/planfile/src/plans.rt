@@ -9,6 +9,7 @@ use crate::journals::Journal;
 use crate::readers::{read_lines, run};
 use crate::stages::open_draft;
 use crate::told::list_figures;
+use arrivals::{Bucket, Choice};
 use figures::Stream;
 use listing::{Entry, write_listing};
 use network::Draft;
@@ -16,6 +17,19 @@ use wire::{FileFault, Kind, Walker, open};
 
 // No listing has more bytes: it has at most 1,679 lines (`MOST_ENTRIES`), of at most 90 bytes each.
 pub const LONGEST_LISTING: usize = 151_110;
+
+// What lent memory may hold before there is any stream.
+pub const NO_STREAM: Stream<Kind> = Stream {
+    number: 0,
+    priority: 0,
+    inbound: 0,
+    outbound: 0,
+    deadline: 0,
+    kind: Choice::Second(Bucket {
+        burst: 1,
+        interval: 1,
+    }),
+};
 
 // Closes the draft, carries out the calls up to the end of the file, and notes the figures of the network that they leave.
 fn finish(
