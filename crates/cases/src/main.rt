@@ -5,7 +5,7 @@ mod judging;
 mod reading;
 
 use anyhow::anyhow;
-use judging::{Verdict, judge};
+use judging::judge;
 use reading::Case;
 use std::{fmt, fs};
 
@@ -33,9 +33,9 @@ struct Tally {
 }
 
 impl Tally {
-    fn count(&mut self, verdict: Verdict) {
+    fn count(&mut self, agrees: bool) {
         self.all = self.all.saturating_add(1);
-        if verdict.agrees() {
+        if agrees {
             self.agreeing = self.agreeing.saturating_add(1);
         }
     }
@@ -61,10 +61,10 @@ fn run_text(rt: &HostRuntime, text: &str) -> anyhow::Result<Tally> {
     for line in text.lines() {
         if case.take(line)? {
             let verdict = judge(rt.alloc(), &case)?;
-            tally.count(verdict);
-            if !verdict.agrees() {
+            tally.count(verdict.is_ok());
+            if let Err(difference) = verdict {
                 let name = case.name.as_str();
-                println!(rt; "    {name}: {verdict}")?;
+                println!(rt; "    {name}: {difference}")?;
             }
             case = Case::new(rt.alloc());
         }

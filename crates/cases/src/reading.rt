@@ -20,8 +20,8 @@ pub struct Case {
     pub file: Vec<u8>,
     pub memory: usize,
     pub room: usize,
-    pub text: Vec<u8>,
-    pub is_refused: bool,
+    // None where a refusal is expected.
+    pub listing: Option<Vec<u8>>,
 }
 
 // What a line says.
@@ -65,8 +65,7 @@ impl Case {
             file: Vec::new(heap),
             memory: MOST_STREAMS,
             room: LONGEST_LISTING,
-            text: Vec::new(heap),
-            is_refused: false,
+            listing: Some(Vec::new(heap)),
         }
     }
 
@@ -90,10 +89,12 @@ impl Case {
             Line::Memory(streams) => self.memory = streams,
             Line::Room(bytes) => self.room = bytes,
             Line::Text(text) => {
-                self.text.extend_from_slice(text.as_bytes())?;
-                self.text.push(b'\n')?;
+                if let Some(listing) = &mut self.listing {
+                    listing.extend_from_slice(text.as_bytes())?;
+                    listing.push(b'\n')?;
+                }
             }
-            Line::Refused => self.is_refused = true,
+            Line::Refused => self.listing = None,
             Line::End => return Ok(true),
             Line::Remark => {}
         }

@@ -1,2 +1,1 @@
 mod Lays
-mod Digits

@@ -2,9 +2,8 @@
 #![tactic(auto)]
 
 mod entries;
+mod lines;
 mod listings;
-mod numbers;
-mod words;
 
 pub use entries::Entry;
 pub use listings::{NoRoom, room, write_listing};

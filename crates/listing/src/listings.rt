@@ -14,11 +14,7 @@ pub fn room(entries: &[Entry]) -> usize
     requires { length entries.now ≤ 2 ^ 32 }
     ensures { result ≡ length (listing_text entries.now) }
 {
-    let mut sum = 0;
-    for entry in entries {
-        sum += entry.room();
-    }
-    sum
+    entries.iter().map(Entry::room).sum()
 }
 
 // Whether the listing takes no more bytes than these.
@@ -26,15 +22,10 @@ fn fits(entries: &[Entry], bytes: usize) -> bool
     ensures value { result ≡ nat_le (length (listing_text entries.now)) bytes }
     ensures roomy { 90 * length entries.now ≤ bytes → result ≡ true }
 {
-    let mut left = bytes;
-    for entry in entries {
-        let line = entry.room();
-        if line > left {
-            return false;
-        }
-        left -= line;
-    }
-    true
+    entries
+        .iter()
+        .try_fold(bytes, |left, entry| left.checked_sub(entry.room()))
+        .is_some()
 }
 
 // Writes the lines one after the other, from the start of the slice on, and says how many bytes that were.

@@ -1,28 +1,13 @@
 // Reads a plan file from standard input, and writes its listing.
 #![tactic(auto)]
 
-use arrivals::{Bucket, Choice};
-use figures::{MOST_STREAMS, Stream};
-use planfile::{LONGEST_LISTING, list_plan};
+use figures::MOST_STREAMS;
+use planfile::{LONGEST_LISTING, NO_STREAM, list_plan};
 use std::io;
 use std::io::{Read, Write};
-use wire::Kind;
 
 // One byte more than a plan file may have: enough to tell that a file is too long.
 const MOST_READ: u64 = 8_001;
-
-// What the lent memory holds before there is any stream.
-const NO_STREAM: Stream<Kind> = Stream {
-    number: 0,
-    priority: 0,
-    inbound: 0,
-    outbound: 0,
-    deadline: 0,
-    kind: Choice::Second(Bucket {
-        burst: 1,
-        interval: 1,
-    }),
-};
 
 fn main(rt: HostRuntime) -> io::Result<()> {
     let mut bytes = Vec::new(rt.alloc());

@@ -9,7 +9,6 @@ use Rattle.wire.specs.declared.faults.FileFault.{FileFault}
 use Rattle.wire.specs.declared.faults.FileFault.TheVariants.{CutShort}
 use Rattle.wire.specs.declared.records.Record.{Record}
 use Rattle.wire.specs.Bytes.{be}
-use Rattle.wire.specs.Faults.{place}
 use Rattle.wire.specs.Walks.{CutOff, Ended, Met, end, piece, step_of}
 use Rattle.wire.proofs.Joins.{never, parts}
 use Rattle.planfile.specs.Kinds.{PlanKind}
@@ -131,7 +130,6 @@ module _ (lines₀ : List Entry) (stage₀ : Stage) (at₀ : ℕ) (left₀ : Lis
   cut_stops fault next left c room =
       record {
         reads = λ file reached. at_cut room file lines stage at bytes (lead room file reached) fault next left c;
-        near = omega (arith, ap place c.told, fitting.short);
         few = omega (arith, fitting.few, fitting.short);
       }
 
@@ -154,6 +152,5 @@ module _ (lines₀ : List Entry) (stage₀ : Stage) (at₀ : ℕ) (left₀ : Lis
         let l = met_length at p bytes front at' left met in
         record {
           reads = λ file reached. stopped_by room file lines stage at bytes (lead room file reached) p front at' left met fault next lines' took;
-          near = omega (arith, took.2, l.2, fitting.short);
           few = omega (arith, ap length took.3, fitting.few, fitting.short);
         }

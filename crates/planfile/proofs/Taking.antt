@@ -57,11 +57,6 @@ module _ (stage : Stage) (at : ℕ) (bytes : List ℕ) where
 
 -- the first record
 module _ (at : ℕ) (bytes : List ℕ) where
-  pub misread_opens : (fault : FileFault) → read_in Opening at bytes ≡ Err fault → Opens at bytes (Err fault)
-  misread_opens fault e =
-      let m = misread Opening at bytes fault e in
-      ((λ room. (Stage.opened, untaken Stage.opened at bytes room fault e)), m.0, m.1)
-
   abbrev New : ℕ → ℕ → Result Draft TableFault → Type 0
   New least most d =
       MatchResult d (λ x. (x.rack ≡ bare_rack least most) × (hub_kept (record { least = least; most = most }) ≡ true))

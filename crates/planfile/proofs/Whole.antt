@@ -63,7 +63,7 @@ module _ (room : ℕ) (bytes rest : List ℕ) (opens : opening bytes ≡ Ok rest
   -- from a point that the file reaches
   module _ (lines : List Entry) (stage : Stage) (at : ℕ) (left : List ℕ) (reached : Reaches room rest lines stage at left) where
     pub stops_plan : (lines' : List Entry) (fault : FileFault) → Stops lines stage at left room lines' fault → PlanRead room bytes (Err fault) lines'
-    stops_plan lines' fault stops = (from_rest (lines' ++ stop_line fault ∷ []) None (stops.reads rest reached), stops.near, stops.few)
+    stops_plan lines' fault stops = (from_rest (lines' ++ stop_line fault ∷ []) None (stops.reads rest reached), stops.few)
 
     finishes_plan : (lines' : List Entry) → Finishes lines stage at left room lines' → PlanRead room bytes (Ok tt) lines'
     finishes_plan lines' f = (

@@ -1,5 +1,5 @@
 -- How far a file is read: the lines noted by then, the stage of the plan, the place, and the bytes from there on.
-use Rattle.std.specs.Prelude.{◌≡◌, ℕ, ◌+◌, ◌*◌, ◌<◌, ◌≤◌, true, cond, List, [], ◌∷◌, ◌++◌, length, take, Some, None, Ok, Err, Option, Result}
+use Rattle.std.specs.Prelude.{◌≡◌, ℕ, ◌+◌, ◌*◌, ◌<◌, ◌≤◌, true, cond, List, [], ◌∷◌, ◌++◌, length, Some, None, Ok, Err, Option, Result}
 use Rattle.listing.specs.declared.entries.Entry.{Entry}
 use Rattle.listing.specs.declared.entries.Entry.TheVariants.{Done}
 use Rattle.records.specs.States.{State}
@@ -19,7 +19,7 @@ use Rattle.planfile.specs.Stages.{Stage, Taken, finished}
 
 -- the lines that a journal holds
 abbrev pub noted : Journal → List Entry
-noted journal = take journal.len journal.entries
+noted journal = journal.entries.items
 
 -- what the answer to a record leaves to be told of it further up: a fault of the input
 abbrev pub onward : Result (Unit {0}) FileFault → Result (Unit {0}) FileFault
@@ -44,7 +44,6 @@ Leads lines stage at left room lines' stage' at' left' =
 -- reading stops somewhere behind the point, by this fault
 pub record Stops (lines : List Entry) (stage : Stage) (at : ℕ) (left : List ℕ) (room : ℕ) (lines' : List Entry) (fault : FileFault) : Type 0 where
   pub reads : (file : List ℕ) → Reaches room file lines stage at left → Read room Stage.opened 1 file (lines' ++ stop_line fault ∷ []) None
-  pub near : place fault ≤ longest_file
   pub few : 5 * length lines' < longest_file
 
 -- the file ends somewhere behind the point, at this stage
@@ -92,4 +91,4 @@ Entered room bytes lines = (listed : PlanListed room bytes lines) × PromisedOf 
 abbrev pub PlanRead : ℕ → List ℕ → Result (Unit {0}) FileFault → List Entry → Type 0
 PlanRead room bytes (Ok x) lines = Entered room bytes lines
 PlanRead room bytes (Err fault) lines =
-    ReadFrom room (opening bytes) (lines ++ stop_line fault ∷ []) None × (place fault ≤ longest_file) × (5 * length lines < longest_file)
+    ReadFrom room (opening bytes) (lines ++ stop_line fault ∷ []) None × (5 * length lines < longest_file)

@@ -1,18 +1,14 @@
 // The entries of a listing while it grows.
-ghost use Rattle.std.specs.Prelude.{◌≡◌, ◌≤◌, length};
-
+use arrayvec::ArrayVec;
 use listing::Entry;
 
 mod notes;
 
 // A file has at most 8,000 bytes, and a record that is carried out or refused takes at least five of them, so
 // there are at most 1,599; the figures of 64 streams and 16 lines may follow.
-pub const MOST_ENTRIES: usize = 1_679;
+const MOST_ENTRIES: usize = 1_679;
 
 #[derive(Drop)]
 pub struct Journal {
-    entries: [Entry; MOST_ENTRIES],
-    len: usize,
-    ghost inside: { len ≤ 1679 },
-    ghost whole: { length entries ≡ 1679 },
+    entries: ArrayVec<Entry, MOST_ENTRIES>,
 }

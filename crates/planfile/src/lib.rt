@@ -9,5 +9,5 @@ mod stages;
 mod told;
 mod unique;
 
-pub use plans::{LONGEST_LISTING, list_plan};
+pub use plans::{LONGEST_LISTING, NO_STREAM, list_plan};
 pub use unique::listing_is_unique;

@@ -19,25 +19,23 @@ impl Phase {
     fn admits(&self, shape: Shape) -> bool
         ensures { result ≡ admits self.now shape }
     {
-        match (shape, self) {
-            (Shape::Hub, Phase::Opening) => true,
-            (Shape::Hub, _) => false,
-            (Shape::Line, Phase::Drafting) => true,
-            (Shape::Line, _) => false,
-            (_, Phase::Opening) => false,
-            (_, _) => true,
+        match shape {
+            Shape::Hub => matches!(self, Phase::Opening),
+            Shape::Line => matches!(self, Phase::Drafting),
+            Shape::Message | Shape::Bucket | Shape::Withdrawal | Shape::Places => {
+                !matches!(self, Phase::Opening)
+            }
         }
     }
-}
 
-// What the record at this place says, if it may stand there.
-pub fn read_in(phase: Phase, at: usize, bytes: &[u8]) -> Result<Record<Kind>, FileFault>
-    ensures { result ≡ read_in phase at bytes.now }
-{
-    let record = Placed { at, bytes };
-    let shape = record.shape()?;
-    if !phase.admits(shape) {
-        return Err(FileFault::Misplaced(at));
+    // What the record says, if it may stand here.
+    pub fn read(&self, piece: Placed) -> Result<Record<Kind>, FileFault>
+        ensures { result ≡ read_in self.now piece.entry.at piece.entry.bytes.now }
+    {
+        let shape = piece.shape()?;
+        if !self.admits(shape) {
+            return Err(FileFault::Misplaced(piece.at));
+        }
+        piece.read()
     }
-    record.read()
 }

@@ -9,13 +9,27 @@ use crate::journals::Journal;
 use crate::readers::{read_lines, run};
 use crate::stages::open_draft;
 use crate::told::list_figures;
+use arrivals::{Bucket, Choice};
 use figures::Stream;
-use listing::{Entry, NoRoom, write_listing};
+use listing::{Entry, write_listing};
 use network::Draft;
 use wire::{FileFault, Kind, Walker, open};
 
 // No listing has more bytes: it has at most 1,679 lines (`MOST_ENTRIES`), of at most 90 bytes each.
 pub const LONGEST_LISTING: usize = 151_110;
+
+// What lent memory may hold before there is any stream.
+pub const NO_STREAM: Stream<Kind> = Stream {
+    number: 0,
+    priority: 0,
+    inbound: 0,
+    outbound: 0,
+    deadline: 0,
+    kind: Choice::Second(Bucket {
+        burst: 1,
+        interval: 1,
+    }),
+};
 
 // Closes the draft, carries out the calls up to the end of the file, and notes the figures of the network that they leave.
 fn finish(
@@ -46,10 +60,8 @@ fn read_plan(
     let Some(first) = walker.next()? else {
         return Ok(());
     };
-    let mut draft = open_draft(first.at, first.bytes)?;
-    journal.push(Entry::Done {
-        at: first.at as u32,
-    });
+    let mut draft = open_draft(first)?;
+    journal.push(Entry::Done { at: first.at });
     read_lines(&mut walker, &mut draft, journal)?;
     finish(walker, draft, memory, journal)
 }
@@ -61,7 +73,7 @@ fn list_entries(bytes: &[u8], memory: &mut [Stream<Kind>]) -> Journal
     let mut journal = Journal::new();
     if let Err(fault) = read_plan(bytes, memory, &mut journal) {
         journal.push(Entry::Stopped {
-            at: fault.place() as u32,
+            at: fault.place(),
             number: fault.number(),
         });
     }
@@ -81,8 +93,5 @@ pub fn list_plan(
     ensures roomy { longest_listing ≤ length out.old → is_ok result ≡ true }
 {
     let journal = list_entries(bytes, memory);
-    match write_listing(journal.entries(), out) {
-        Ok(n) => Ok(n),
-        Err(NoRoom) => Err(FileFault::NoRoom),
-    }
+    write_listing(journal.entries(), out).map_err(|_| FileFault::NoRoom)
 }

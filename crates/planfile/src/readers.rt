@@ -22,7 +22,7 @@ pub fn read_lines(
 {
     let mut ahead = *walker;
     while let Some(record) = ahead.next()? {
-        let Some((number, line)) = read_line(record.at, record.bytes)? else {
+        let Some((number, line)) = read_line(record)? else {
             return Ok(());
         };
         journal.note(record.at, draft.add_line(number, line))?;
@@ -43,7 +43,7 @@ pub fn run(
 {
     let mut ahead = walker;
     while let Some(record) = ahead.next()? {
-        take_call(network, journal, record.at, record.bytes)?;
+        take_call(network, journal, record)?;
     }
     Ok(())
 }

@@ -1,35 +1,34 @@
 // One record at each stage of a plan: the hub, a line of the draft, a call on the network.
-ghost use Rattle.std.specs.Prelude.{◌≡◌, ℕ, ◌<◌, ◌≤◌, true, length, Ok, Err, MatchResult};
+ghost use Rattle.std.specs.Prelude.{◌≡◌, ℕ, ◌<◌, true, length, Ok, Err, MatchResult};
 ghost use Rattle.figures.specs.Tables.{Passing};
 ghost use Rattle.records.specs.Records.{table, state_of};
-ghost use Rattle.wire.specs.Limits.{longest_file};
 ghost use Rattle.planfile.specs.Kinds.{plan_alpha};
 ghost use Rattle.planfile.specs.Points.{Took, Opens, noted};
 ghost use Rattle.planfile.specs.declared.phases.Phase.TheVariants.{Drafting};
 ghost use Rattle.planfile.specs.Stages.{Called, is_call, lined, networked, read_in};
 
 use crate::journals::Journal;
-use crate::phases::{Phase, read_in};
+use crate::phases::Phase;
 use admission::TableFault;
 use figures::Line;
 use network::{Draft, Network};
-use wire::{FileFault, Kind, Record, placed};
+use wire::{FileFault, Kind, Placed, Record, placed};
 
 // The draft of the first record.
-pub fn open_draft(at: usize, bytes: &[u8]) -> Result<Draft, FileFault>
-    ensures { MatchResult result (λ draft. Opens at bytes.now (Ok draft.rack)) (λ fault. Opens at bytes.now (Err fault)) }
+pub fn open_draft(piece: Placed) -> Result<Draft, FileFault>
+    ensures { MatchResult result (λ draft. Opens piece.entry.at piece.entry.bytes.now (Ok draft.rack)) (λ fault. Opens piece.entry.at piece.entry.bytes.now (Err fault)) }
 {
-    let Record::Hub { least, most } = read_in(Phase::Opening, at, bytes)? else {
-        unreachable()
+    let Record::Hub { least, most } = Phase::Opening.read(piece)? else {
+        unreachable!()
     };
-    placed(at, Draft::new(least, most))
+    placed(piece.at, Draft::new(least, most))
 }
 
 // The line that a record of the draft says, with its number; none where the record is a call, which closes the draft.
-pub fn read_line(at: usize, bytes: &[u8]) -> Result<Option<(u8, Line)>, FileFault>
-    ensures { result ≡ lined (read_in Drafting at bytes.now) }
+pub fn read_line(piece: Placed) -> Result<Option<(u8, Line)>, FileFault>
+    ensures { result ≡ lined (read_in Drafting piece.entry.at piece.entry.bytes.now) }
 {
-    match read_in(Phase::Drafting, at, bytes)? {
+    match Phase::Drafting.read(piece)? {
         Record::Line { number, line } => Ok(Some((number, line))),
         _ => Ok(None),
     }
@@ -45,7 +44,7 @@ fn call(network: &mut Network<Kind>, what: Record<Kind>) -> Result<(), TableFaul
         Record::Stream(stream) => network.request(stream),
         Record::Withdrawal(number) => network.withdraw(number),
         Record::Places { number, places } => network.set_places(number, places),
-        Record::Hub { .. } | Record::Line { .. } => unreachable(),
+        Record::Hub { .. } | Record::Line { .. } => unreachable!(),
     }
 }
 
@@ -53,13 +52,12 @@ fn call(network: &mut Network<Kind>, what: Record<Kind>) -> Result<(), TableFaul
 pub fn take_call(
     network: &mut Network<Kind>,
     journal: &mut Journal,
-    at: usize,
-    bytes: &[u8],
+    piece: Placed,
 ) -> Result<(), FileFault>
-    requires { (length (noted journal.old) < 1679) × (at ≤ longest_file) }
-    ensures took { Took (networked (state_of network.old.records)) (noted journal.old) at bytes.now result (networked (state_of network.new.records)) (noted journal.new) }
+    requires { length (noted journal.old) < 1679 }
+    ensures took { Took (networked (state_of network.old.records)) (noted journal.old) piece.entry.at piece.entry.bytes.now result (networked (state_of network.new.records)) (noted journal.new) }
     ensures passing { Passing plan_alpha network.old.records.rack (table network.old.records) → Passing plan_alpha network.new.records.rack (table network.new.records) }
 {
-    let what = read_in(Phase::Running, at, bytes)?;
-    journal.note(at, call(network, what))
+    let what = Phase::Running.read(piece)?;
+    journal.note(piece.at, call(network, what))
 }

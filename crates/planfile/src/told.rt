@@ -13,8 +13,6 @@ use listing::Entry;
 use network::Network;
 use wire::Kind;
 
-const LAST_LINE: u8 = 16;
-
 // Notes the figures of the streams, in table order.
 fn list_streams(network: &Network<Kind>, view: &Table<Kind>, delays: &Delays, journal: &mut Journal)
     requires rack { view.now.rack.now ≡ network.now.records.rack }
@@ -25,7 +23,7 @@ fn list_streams(network: &Network<Kind>, view: &Table<Kind>, delays: &Delays, jo
 {
     for (place, stream) in network.streams().iter().enumerate() {
         let Some(told) = view.of_stream(delays, place) else {
-            unreachable()
+            unreachable!()
         };
         journal.push(Entry::Stream {
             number: stream.number,
@@ -42,10 +40,10 @@ fn list_lines(network: &Network<Kind>, figures: &Figures, journal: &mut Journal)
     requires few { length (noted journal.old) + 16 ≤ 1679 }
     ensures { Added (LinesListed (state_of network.now.records) 1 network.now.records.rack.lines) (noted journal.old) (noted journal.new) }
 {
-    for number in 1..=LAST_LINE {
+    for (number, need) in (1..).zip(&figures.needs) {
         if let Some(line) = network.line(number) {
-            let Some(need) = figures.needs[number as usize - 1] else {
-                unreachable()
+            let Some(need) = *need else {
+                unreachable!()
             };
             journal.push(Entry::Line {
                 number,
@@ -64,7 +62,7 @@ pub fn list_figures(network: &Network<Kind>, journal: &mut Journal)
 {
     let view = network.as_table();
     let Ok(figures) = view.figures() else {
-        unreachable()
+        unreachable!()
     };
     list_streams(network, &view, &figures.delays, journal);
     list_lines(network, &figures, journal);

@@ -2,8 +2,7 @@
 ghost use Rattle.planfile.specs.Plans.{OneListing};
 
 // A file has one listing: no choice is left to the definitions.
-pub fn listing_is_unique() -> u8
+pub fn listing_is_unique()
     ensures { OneListing }
 {
-    0
 }

@@ -1,22 +1,21 @@
 // How entries come into a journal.
 ghost use Rattle.std.specs.Prelude.{◌≡◌, ◌<◌, ◌≤◌, [], ◌∷◌, ◌++◌, length};
 ghost use Rattle.wire.specs.Faults.{with_place};
-ghost use Rattle.wire.specs.Limits.{longest_file};
+ghost use Rattle.wire.specs.declared.faults.FileFault.TheVariants.{Table};
 ghost use Rattle.planfile.specs.Lines.{of_input};
 ghost use Rattle.planfile.specs.Points.{noted, onward, with_answer};
 
-use super::{Journal, MOST_ENTRIES};
+use super::Journal;
 use admission::TableFault;
+use arrayvec::ArrayVec;
 use listing::Entry;
 use wire::FileFault;
 
-// Refusals up to this number are faults of the input.
-const LAST_OF_INPUT: u8 = 7;
-
-fn is_of_input(fault: &FileFault) -> bool
-    ensures { result ≡ of_input fault.now }
+// Whether it is a fault of the input, at which reading stops; the others are faults of the state.
+fn is_of_input(fault: &TableFault) -> bool
+    ensures { result ≡ of_input (Table 0 fault.now) }
 {
-    fault.number() <= LAST_OF_INPUT
+    matches!(fault, TableFault::OutsideLimits | TableFault::Overfull)
 }
 
 impl Journal {
@@ -24,44 +23,38 @@ impl Journal {
         ensures { noted result ≡ [] }
     {
         Journal {
-            entries: [Entry::Done { at: 0 }; MOST_ENTRIES],
-            len: 0,
+            entries: ArrayVec::new(),
         }
     }
 
     pub fn entries(&self) -> &[Entry]
-        ensures { result.now ≡ noted self.now }
+        ensures value { result.now ≡ noted self.now }
+        ensures few { length result.now ≤ 1679 }
     {
-        &self.entries[0..self.len]
+        self.entries.as_slice()
     }
 
     pub fn push(&mut self, entry: Entry)
         requires { length (noted self.old) < 1679 }
         ensures { noted self.new ≡ noted self.old ++ entry ∷ [] }
     {
-        self.entries[self.len] = entry;
-        self.len += 1;
+        self.entries.push(entry);
     }
 
     // Notes what the table answers to the record at this place. A fault of the input is handed back instead.
     pub fn note(&mut self, at: usize, answer: Result<(), TableFault>) -> Result<(), FileFault>
-        requires { (length (noted self.old) < 1679) × (at ≤ longest_file) }
+        requires { length (noted self.old) < 1679 }
         ensures told { result ≡ onward (with_place at answer) }
         ensures lines { noted self.new ≡ with_answer (noted self.old) at (with_place at answer) }
     {
         match answer {
-            Ok(()) => self.push(Entry::Done { at: at as u32 }),
-            Err(fault) => {
-                let fault = FileFault::from((at, fault));
-                if is_of_input(&fault) {
-                    return Err(fault);
-                }
-                self.push(Entry::Refused {
-                    at: fault.place() as u32,
-                    number: fault.number(),
-                    party: fault.party(),
-                });
-            }
+            Ok(()) => self.push(Entry::Done { at }),
+            Err(fault) if is_of_input(&fault) => return Err(FileFault::from((at, fault))),
+            Err(fault) => self.push(Entry::Refused {
+                at,
+                number: fault.number(),
+                party: fault.party(),
+            }),
         }
         Ok(())
     }
