@@ -5,4 +5,5 @@ pub mod Handover
 pub mod OneAnswer
 pub mod OneListing
 pub mod FigureLines
+pub mod Promising
 pub mod Whole

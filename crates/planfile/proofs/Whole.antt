@@ -9,7 +9,7 @@ use Rattle.listing.specs.declared.entries.Entry.TheVariants.{Done}
 use Rattle.listing.specs.Text.{listing_text}
 use Rattle.records.specs.Sound.{Sound}
 use Rattle.records.specs.States.{State}
-use Rattle.network.proofs.Covering.{promised}
+use Rattle.planfile.proofs.Promising.{promised_listed}
 use Rattle.wire.specs.declared.faults.FileFault.{FileFault}
 use Rattle.wire.specs.declared.faults.FileFault.TheVariants.{TooLong, Version}
 use Rattle.wire.specs.Limits.{longest_file}
@@ -27,16 +27,16 @@ use Rattle.planfile.proofs.Reached.{at_end, cut_stops, fitting_on, taken_on, too
 
 -- the calls are carried out to the end of the file, and the figures follow
 pub finishes : (lines : List Entry) (stage stage' : Stage) (at : ℕ) (left : List ℕ) (room : ℕ) (answers lines' : List Entry) (st : State PlanKind)
-    → stage ≡ stage' → Ends lines stage at left room answers (Stage.networked st) → Sound st → Passing plan_alpha st.rack st.streams
+    → stage ≡ stage' → Ends lines stage at left room answers (Stage.networked st) → Sound st → ∥ Passing plan_alpha st.rack st.streams ∥₁
     → Added (NetworkListed st) answers lines' → Finishes lines stage' at left room lines'
-finishes lines stage stage' at left room answers lines' st same ends sound passing figures =
+finishes lines stage stage' at left room answers lines' st same ends sound passes figures =
     record {
       answers = answers;
       figures = figures.0;
       st = st;
       reads = λ file reached. ends.reads file (subst (λ s. Reaches room file lines s at left) (sym same) reached);
       listed = figures.1;
-      promised = promised plan_alpha st sound passing;
+      promised = promised_listed st sound figures.1 passes;
       whole = figures.2;
     }
 

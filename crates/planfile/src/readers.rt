@@ -1,8 +1,6 @@
 // The records of a file, one after the other: first the lines of a draft, then the calls on its network.
 ghost use Rattle.std.specs.Prelude.{◌≡◌, ℕ, ◌+◌, ◌*◌, ◌≤◌, length, MatchResult};
-ghost use Rattle.figures.specs.Tables.{Passing};
-ghost use Rattle.records.specs.Records.{table, state_of};
-ghost use Rattle.planfile.specs.Kinds.{plan_alpha};
+ghost use Rattle.records.specs.Records.{state_of};
 ghost use Rattle.planfile.specs.Points.{Ends, Fitting, Leads, Stops, noted};
 ghost use Rattle.planfile.specs.Stages.{closed, drafted, networked};
 
@@ -38,8 +36,7 @@ pub fn run(
     journal: &mut Journal,
 ) -> Result<(), FileFault>
     requires { Fitting (noted journal.old) walker.at walker.rest.now }
-    ensures read { MatchResult result (λ _. (room : ℕ) → Ends (noted journal.old) (networked (state_of network.old.records)) walker.entry.at walker.entry.rest.now room (noted journal.new) (networked (state_of network.new.records))) (λ fault. (room : ℕ) → Stops (noted journal.old) (networked (state_of network.old.records)) walker.entry.at walker.entry.rest.now room (noted journal.new) fault) }
-    ensures passing { Passing plan_alpha network.old.records.rack (table network.old.records) → Passing plan_alpha network.new.records.rack (table network.new.records) }
+    ensures { MatchResult result (λ _. (room : ℕ) → Ends (noted journal.old) (networked (state_of network.old.records)) walker.entry.at walker.entry.rest.now room (noted journal.new) (networked (state_of network.new.records))) (λ fault. (room : ℕ) → Stops (noted journal.old) (networked (state_of network.old.records)) walker.entry.at walker.entry.rest.now room (noted journal.new) fault) }
 {
     let mut ahead = walker;
     while let Some(record) = ahead.next()? {

@@ -1,8 +1,6 @@
 // One record at each stage of a plan: the hub, a line of the draft, a call on the network.
 ghost use Rattle.std.specs.Prelude.{◌≡◌, ℕ, ◌<◌, true, length, Ok, Err, MatchResult};
-ghost use Rattle.figures.specs.Tables.{Passing};
-ghost use Rattle.records.specs.Records.{table, state_of};
-ghost use Rattle.planfile.specs.Kinds.{plan_alpha};
+ghost use Rattle.records.specs.Records.{state_of};
 ghost use Rattle.planfile.specs.Points.{Took, Opens, noted};
 ghost use Rattle.planfile.specs.declared.phases.Phase.TheVariants.{Drafting};
 ghost use Rattle.planfile.specs.Stages.{Called, is_call, lined, networked, read_in};
@@ -37,8 +35,7 @@ pub fn read_line(piece: Placed) -> Result<Option<(u8, Line)>, FileFault>
 // Carries out what the record asks of the network.
 fn call(network: &mut Network<Kind>, what: Record<Kind>) -> Result<(), TableFault>
     requires { is_call what ≡ true }
-    ensures called { Called (state_of network.old.records) what result (state_of network.new.records) }
-    ensures passing { Passing plan_alpha network.old.records.rack (table network.old.records) → Passing plan_alpha network.new.records.rack (table network.new.records) }
+    ensures { Called (state_of network.old.records) what result (state_of network.new.records) }
 {
     match what {
         Record::Stream(stream) => network.request(stream),
@@ -55,8 +52,7 @@ pub fn take_call(
     piece: Placed,
 ) -> Result<(), FileFault>
     requires { length (noted journal.old) < 1679 }
-    ensures took { Took (networked (state_of network.old.records)) (noted journal.old) piece.entry.at piece.entry.bytes.now result (networked (state_of network.new.records)) (noted journal.new) }
-    ensures passing { Passing plan_alpha network.old.records.rack (table network.old.records) → Passing plan_alpha network.new.records.rack (table network.new.records) }
+    ensures { Took (networked (state_of network.old.records)) (noted journal.old) piece.entry.at piece.entry.bytes.now result (networked (state_of network.new.records)) (noted journal.new) }
 {
     let what = Phase::Running.read(piece)?;
     journal.note(piece.at, call(network, what))

@@ -1,6 +1,5 @@
 // The figures of a network, as the last entries of a listing.
 ghost use Rattle.std.specs.Prelude.{◌≡◌, ◌+◌, ◌≤◌, length};
-ghost use Rattle.figures.specs.Tables.{Passing};
 ghost use Rattle.figures.specs.Told.{DelaysAre, FiguresAre};
 ghost use Rattle.records.specs.Records.{table, state_of};
 ghost use Rattle.planfile.specs.Figures.{LinesListed, NetworkListed, StreamsListed};
@@ -42,9 +41,7 @@ fn list_lines(network: &Network<Kind>, figures: &Figures, journal: &mut Journal)
 {
     for (number, need) in (1..).zip(&figures.needs) {
         if let Some(line) = network.line(number) {
-            let Some(need) = *need else {
-                unreachable!()
-            };
+            let Some(need) = *need else { unreachable!() };
             journal.push(Entry::Line {
                 number,
                 need,
@@ -56,8 +53,7 @@ fn list_lines(network: &Network<Kind>, figures: &Figures, journal: &mut Journal)
 
 // Notes the figures of the network: of its streams, then of its lines.
 pub fn list_figures(network: &Network<Kind>, journal: &mut Journal)
-    requires passing { Passing plan_alpha network.now.records.rack (table network.now.records) }
-    requires few { length (noted journal.old) + length (table network.now.records) + 16 ≤ 1679 }
+    requires { length (noted journal.old) + length (table network.now.records) + 16 ≤ 1679 }
     ensures { Added (NetworkListed (state_of network.now.records)) (noted journal.old) (noted journal.new) }
 {
     let view = network.as_table();

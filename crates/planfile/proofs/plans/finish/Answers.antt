@@ -15,16 +15,13 @@ returns-in_err-run c =
     let room = min most_streams (length c.args.memory.now) in
     rw (p.1, p.2)
     (subst (λ st. Stops (noted c.args.journal.now) (networked st) w.at w.rest.now room (noted c.run.new.journal) c.in_err-run.field-0.0)
-    c.close-network.ensures.state (c.in_err-run.ensures.read room))
+    c.close-network.ensures.state (c.in_err-run.ensures room))
 
 pub list_figures-requires : goal.list_figures-requires
 list_figures-requires c =
     let net = c.run.new.network in
-    let ends = c.in_ok-run.ensures.read 0 in
-    record {
-      passing = c.in_ok-run.ensures.passing c.close-network.ensures.passing;
-      few = omega (arith, ends.few, few net.records.rack (table net.records) net.kept);
-    }
+    let ends = c.in_ok-run.ensures 0 in
+    omega (arith, ends.few, few net.records.rack (table net.records) net.kept)
 
 pub returns : goal.returns
 returns c =
@@ -33,6 +30,6 @@ returns c =
     let room = min most_streams (length c.args.memory.now) in
     finishes (noted c.args.journal.now) (networked (state_of c.close-network.result.records)) (networked _) w.at w.rest.now room
     (noted c.run.new.journal) (noted c.list_figures.new.journal) (state_of net.records)
-    (ap networked c.close-network.ensures.state) (c.in_ok-run.ensures.read room)
+    (ap networked c.close-network.ensures.state) (c.in_ok-run.ensures room)
     (record { kept = net.kept; differ = net.differ; sixteen = net.sixteen; fields = net.fields })
-    (c.in_ok-run.ensures.passing c.close-network.ensures.passing) c.list_figures.ensures
+    net.passing c.list_figures.ensures

@@ -13,13 +13,10 @@ returns-in_err-record c =
     let p = err_from_is_err_and c.from_residual.result c.from_residual.ensures.1 in
     let w = c.args.walker in
     let a = c.loop-record.ahead in
-    record {
-      read = rw (p.1, p.2)
-          (cut_stops (noted c.args.journal.now) (networked (state_of c.args.network.now.records)) w.at w.rest.now
-          (noted c.loop-record.journal) (networked (state_of c.loop-record.network.records)) a.at a.rest.now c.loop-record.invariant.0 c.loop-record.invariant.1
-          _ _ _ c.in_err-record.ensures);
-      passing = c.loop-record.invariant.2;
-    }
+    rw (p.1, p.2)
+    (cut_stops (noted c.args.journal.now) (networked (state_of c.args.network.now.records)) w.at w.rest.now
+    (noted c.loop-record.journal) (networked (state_of c.loop-record.network.records)) a.at a.rest.now c.loop-record.invariant.0 c.loop-record.invariant.1
+    _ _ _ c.in_err-record.ensures)
 
 pub loop-record-smaller : goal.loop-record-smaller
 loop-record-smaller c =
@@ -38,11 +35,10 @@ loop-record-preserved c =
     let place = c.in-Some.record.at in
     let front = c.in-Some.record.bytes.now in
     let met : Met a.at a.rest.now place front n.at n.rest.now = MatchOption-at_some _ _ c.in-Some.record c.in-Some.is c.in_ok-record.ensures in
-    let took = c.in_ok-take_call.ensures.took in (
+    let took = c.in_ok-take_call.ensures in (
       leads_on (noted c.args.journal.now) (networked (state_of c.args.network.now.records)) w.at w.rest.now lines stage a.at a.rest.now
           c.loop-record.invariant.0 c.loop-record.invariant.1 place front n.at n.rest.now met next lines' took,
       fitting_on stage lines a.at place a.rest.now front n.at n.rest.now c.loop-record.invariant.1 met next lines' took,
-      λ h. c.in_ok-take_call.ensures.passing (c.loop-record.invariant.2 h),
     )
 
 pub returns-in_err-take_call : goal.returns-in_err-take_call
@@ -54,14 +50,11 @@ returns-in_err-take_call c =
     let place = c.in-Some.record.at in
     let front = c.in-Some.record.bytes.now in
     let met : Met a.at a.rest.now place front n.at n.rest.now = MatchOption-at_some _ _ c.in-Some.record c.in-Some.is c.in_ok-record.ensures in
-    record {
-      read = rw (p.1, p.2)
-          (took_stops (noted c.args.journal.now) (networked (state_of c.args.network.now.records)) w.at w.rest.now
-          (noted c.loop-record.journal) (networked (state_of c.loop-record.network.records)) a.at a.rest.now
-          c.loop-record.invariant.0 c.loop-record.invariant.1 place front n.at n.rest.now met
-          c.in_err-take_call.field-0.0 (networked (state_of c.take_call.new.network.records)) (noted c.take_call.new.journal) c.in_err-take_call.ensures.took);
-      passing = λ h. c.in_err-take_call.ensures.passing (c.loop-record.invariant.2 h);
-    }
+    rw (p.1, p.2)
+    (took_stops (noted c.args.journal.now) (networked (state_of c.args.network.now.records)) w.at w.rest.now
+    (noted c.loop-record.journal) (networked (state_of c.loop-record.network.records)) a.at a.rest.now
+    c.loop-record.invariant.0 c.loop-record.invariant.1 place front n.at n.rest.now met
+    c.in_err-take_call.field-0.0 (networked (state_of c.take_call.new.network.records)) (noted c.take_call.new.journal) c.in_err-take_call.ensures)
 
 pub returns : goal.returns
 returns c =
@@ -69,10 +62,6 @@ returns c =
     let a = c.loop-record.ahead in
     let n = c.next.new.self in
     let at_end : Ended a.at a.rest.now n.at n.rest.now = MatchOption-at_none _ _ c.in_default.is c.in_ok-record.ensures in
-    record {
-      read =
-          end_ends (noted c.args.journal.now) (networked (state_of c.args.network.now.records)) w.at w.rest.now
-          (noted c.loop-record.journal) (networked (state_of c.loop-record.network.records)) a.at a.rest.now c.loop-record.invariant.0 c.loop-record.invariant.1
-          n.at n.rest.now at_end;
-      passing = c.loop-record.invariant.2;
-    }
+    end_ends (noted c.args.journal.now) (networked (state_of c.args.network.now.records)) w.at w.rest.now
+    (noted c.loop-record.journal) (networked (state_of c.loop-record.network.records)) a.at a.rest.now c.loop-record.invariant.0 c.loop-record.invariant.1
+    n.at n.rest.now at_end

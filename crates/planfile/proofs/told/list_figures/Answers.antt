@@ -1,4 +1,5 @@
 use Rattle.std.proofs.Common.{Err, subst₂, length, ap, arith, length-append}
+use Rattle.std.proofs.Math.Logic.{∥∥₁_elim}
 use Rattle.figures.specs.Told.{FiguresAre, FiguresTold}
 use Rattle.records.specs.Records.{state_of, table}
 use Rattle.planfile.specs.Kinds.{plan_alpha}
@@ -10,9 +11,9 @@ use Rattle.planfile.proofs.told.list_figures.Goals as goal
 pub unreachable-requires : goal.unreachable-requires
 unreachable-requires c =
     let net = c.args.network.now in
-    figures_there plan_alpha (state_of net.records) (record { kept = net.kept; differ = net.differ; sixteen = net.sixteen; fields = net.fields })
-    c.requires.passing c.in_default.field-0
-    (subst₂ (λ r t. FiguresTold plan_alpha r t (Err c.in_default.field-0)) c.as_table-view.ensures.rack c.as_table-view.ensures.streams c.in_default.ensures)
+    ∥∥₁_elim net.passing (elim [ ]) (λ P. figures_there plan_alpha (state_of net.records) (record { kept = net.kept; differ = net.differ; sixteen = net.sixteen; fields = net.fields })
+    P c.in_default.field-0
+    (subst₂ (λ r t. FiguresTold plan_alpha r t (Err c.in_default.field-0)) c.as_table-view.ensures.rack c.as_table-view.ensures.streams c.in_default.ensures))
 
 pub list_streams-requires-clause-delays : goal.list_streams-requires-clause-delays
 list_streams-requires-clause-delays c =
@@ -29,7 +30,7 @@ list_lines-requires-clause-few c =
     let added = c.list_streams.ensures in
     omega (
       arith,
-      c.requires.few,
+      c.requires,
       ap length added.2,
       length-append (noted c.args.journal.now) added.0,
       streams_length (state_of c.args.network.now.records) added.1,
