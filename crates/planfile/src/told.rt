@@ -42,9 +42,7 @@ fn list_lines(network: &Network<Kind>, figures: &Figures, journal: &mut Journal)
 {
     for (number, need) in (1..).zip(&figures.needs) {
         if let Some(line) = network.line(number) {
-            let Some(need) = *need else {
-                unreachable!()
-            };
+            let Some(need) = *need else { unreachable!() };
             journal.push(Entry::Line {
                 number,
                 need,
