@@ -8,18 +8,15 @@ use Rattle.planfile.specs.Stages.{networked}
 use Rattle.planfile.proofs.Reached.{cut_stops, end_ends, fitting_on, leads_on, met_length, took_stops}
 use Rattle.planfile.proofs.readers.run.Goals as goal
 
-pub returns-in_err-record : goal.returns-in_err-record
-returns-in_err-record c =
+pub returns-in_err-record-clause-read : goal.returns-in_err-record-clause-read
+returns-in_err-record-clause-read c =
     let p = err_from_is_err_and c.from_residual.result c.from_residual.ensures.1 in
     let w = c.args.walker in
     let a = c.loop-record.ahead in
-    record {
-      read = rw (p.1, p.2)
-          (cut_stops (noted c.args.journal.now) (networked (state_of c.args.network.now.records)) w.at w.rest.now
-          (noted c.loop-record.journal) (networked (state_of c.loop-record.network.records)) a.at a.rest.now c.loop-record.invariant.0 c.loop-record.invariant.1
-          _ _ _ c.in_err-record.ensures);
-      passing = c.loop-record.invariant.2;
-    }
+    rw (p.1, p.2)
+    (cut_stops (noted c.args.journal.now) (networked (state_of c.args.network.now.records)) w.at w.rest.now
+    (noted c.loop-record.journal) (networked (state_of c.loop-record.network.records)) a.at a.rest.now c.loop-record.invariant.0 c.loop-record.invariant.1
+    _ _ _ c.in_err-record.ensures)
 
 pub loop-record-smaller : goal.loop-record-smaller
 loop-record-smaller c =
@@ -63,16 +60,12 @@ returns-in_err-take_call c =
       passing = λ h. c.in_err-take_call.ensures.passing (c.loop-record.invariant.2 h);
     }
 
-pub returns : goal.returns
-returns c =
+pub returns-clause-read : goal.returns-clause-read
+returns-clause-read c =
     let w = c.args.walker in
     let a = c.loop-record.ahead in
     let n = c.next.new.self in
     let at_end : Ended a.at a.rest.now n.at n.rest.now = MatchOption-at_none _ _ c.in_default.is c.in_ok-record.ensures in
-    record {
-      read =
-          end_ends (noted c.args.journal.now) (networked (state_of c.args.network.now.records)) w.at w.rest.now
-          (noted c.loop-record.journal) (networked (state_of c.loop-record.network.records)) a.at a.rest.now c.loop-record.invariant.0 c.loop-record.invariant.1
-          n.at n.rest.now at_end;
-      passing = c.loop-record.invariant.2;
-    }
+    end_ends (noted c.args.journal.now) (networked (state_of c.args.network.now.records)) w.at w.rest.now
+    (noted c.loop-record.journal) (networked (state_of c.loop-record.network.records)) a.at a.rest.now c.loop-record.invariant.0 c.loop-record.invariant.1
+    n.at n.rest.now at_end

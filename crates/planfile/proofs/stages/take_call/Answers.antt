@@ -7,27 +7,20 @@ use Rattle.planfile.proofs.Records.{is_a_call}
 use Rattle.planfile.proofs.Taking.{misread_took, took}
 use Rattle.planfile.proofs.stages.take_call.Goals as goal
 
-pub returns-in_err-what : goal.returns-in_err-what
-returns-in_err-what c =
+pub returns-in_err-what-clause-took : goal.returns-in_err-what-clause-took
+returns-in_err-what-clause-took c =
     let p = err_from_is_err_and c.from_residual.result c.from_residual.ensures.1 in
     let st = networked (state_of c.args.network.now.records) in
     let lines = noted c.args.journal.now in
-    record {
-      took = subst (λ x. Took st lines c.args.piece.at c.args.piece.bytes.now x st lines) (sym p.1)
-          (misread_took st c.args.piece.at c.args.piece.bytes.now p.0 st lines (sym c.in_err-what.ensures ∙ ap Err (sym p.2)));
-      passing = λ h. h;
-    }
+    subst (λ x. Took st lines c.args.piece.at c.args.piece.bytes.now x st lines) (sym p.1)
+    (misread_took st c.args.piece.at c.args.piece.bytes.now p.0 st lines (sym c.in_err-what.ensures ∙ ap Err (sym p.2)))
 
 pub call-requires : goal.call-requires
 call-requires c = is_a_call c.args.piece.at c.args.piece.bytes.now c.in_ok-what.what (sym c.in_ok-what.ensures)
 
-pub returns : goal.returns
-returns c =
+pub returns-clause-took : goal.returns-clause-took
+returns-clause-took c =
     let next = state_of c.call.new.network.records in
-    record {
-      took =
-          took (networked (state_of c.args.network.now.records)) c.args.piece.at c.args.piece.bytes.now c.in_ok-what.what c.call.result
-          (networked next) (noted c.args.journal.now) (noted c.note.new.self) c.note.result
-          (sym c.in_ok-what.ensures) (λ room. (next, c.call.ensures.called, refl)) c.note.ensures.told c.note.ensures.lines;
-      passing = c.call.ensures.passing;
-    }
+    took (networked (state_of c.args.network.now.records)) c.args.piece.at c.args.piece.bytes.now c.in_ok-what.what c.call.result
+    (networked next) (noted c.args.journal.now) (noted c.note.new.self) c.note.result
+    (sym c.in_ok-what.ensures) (λ room. (next, c.call.ensures.called, refl)) c.note.ensures.told c.note.ensures.lines
