@@ -53,7 +53,11 @@ fn compare(out: &[u8], text: &[u8]) -> Result<(), Difference>
 }
 
 // Weighs what the call told and left in the buffer.
-fn weigh(told: Result<usize, FileFault>, out: &[u8], listing: &Option<Vec<u8>>) -> Result<(), Difference>
+fn weigh(
+    told: Result<usize, FileFault>,
+    out: &[u8],
+    listing: &Option<Vec<u8>>,
+) -> Result<(), Difference>
     ensures { IsOk result → MatchResult told (λ n. IsSomeAnd listing.now (λ text. (n ≡ vec_len text) × (n ≤ length out.now) × Shown out.now text.items)) (λ e. (listing.now ≡ None) × (e ≡ NoRoom) × Shown out.now []) }
 {
     match (told, listing) {

@@ -12,7 +12,8 @@ pub enum Entry {
     Done {
         at: usize,
     },
-    // It was refused, by this number, and the refusal names this stream or line.
+    // It was refused, by this number, and the refusal names this stream or line. A number, since no fault is known down
+    // here, and a line tells no more of one.
     Refused {
         at: usize,
         number: u8,

@@ -8,11 +8,18 @@ use Rattle.figures.specs.declared.racks.Line.{Line}
 use Rattle.figures.specs.declared.streams.Stream.{Stream}
 use Rattle.figures.specs.Racks.{line_at}
 use Rattle.listing.specs.declared.entries.Entry.{Entry}
+use Rattle.network.specs.declared.networks.Network.{Network}
 use Rattle.records.specs.declared.lines.LineFigures.{LineFigures}
+use Rattle.records.specs.Records.{state_of}
+use Rattle.records.specs.Sound.{Sound}
 use Rattle.records.specs.States.{LineAnswer, State, StreamAnswer}
 use Rattle.planfile.specs.Figures.{LinesListed, NetworkListed, StreamsListed, absent, no_line, no_stream, present, stream}
 use Rattle.planfile.specs.Kinds.{PlanKind, plan_alpha}
 use Rattle.planfile.specs.Points.{Added}
+
+-- what the type of a network keeps, of its state
+pub sound : (net : Network PlanKind) → Sound (state_of net.records)
+sound net = record { kept = net.kept; differ = net.differ; sixteen = net.sixteen; fields = net.fields }
 
 -- one line more behind those that were added
 added_more : (Sort Sort' : List Entry → Type 0) (lines lines₁ lines₂ : List Entry) (line : Entry) → ((more : List Entry) → Sort more → Sort' (more ++ line ∷ []))

@@ -34,6 +34,8 @@ impl Journal {
         self.entries.as_slice()
     }
 
+    // That there is room is asked and not answered by a `Result`, here and in what calls it: no type holds a length that
+    // grows below a bound, and a listing has no fault for it.
     pub fn push(&mut self, entry: Entry)
         requires { length (noted self.old) < 1679 }
         ensures { noted self.new ≡ noted self.old ++ entry ∷ [] }

@@ -28,25 +28,25 @@ told : (c : goal.After-is_some) → (c.is_some.result ≡ nat_le (length (listin
 told c =
     let (xs, o, f, left, (t, yields, last), folds, how) = c.try_fold.ensures.ran in
     let j = chained_keeps _ (Left c.args.bytes) (λ ys q x v j (w, called, is).
-      let h : (v.1 + length (line_text x.now) ≡ q.1) × (length (line_text x.now) ≤ 90) = search (rules, tests) in
-      let e = ap length (sym (flat_map_more text [] ys x)) ∙ length-append (flat_map text ys) (text x) in
-      let k = length-append ys (x ∷ []) in (omega arith, omega arith)) xs _ _ (omega arith, omega arith) folds in
+    let h : (v.1 + length (line_text x.now) ≡ q.1) × (length (line_text x.now) ≤ 90) = search (rules, tests) in
+    let e = ap length (sym (flat_map_more text [] ys x)) ∙ length-append (flat_map text ys) (text x) in
+    let k = length-append ys (x ∷ []) in (omega arith, omega arith)) xs _ _ (omega arith, omega arith) folds in
     let all = YieldsList-from_slice c.args.entries.now cc in
     cases o how last
-      (λ result end none.
-        let e = YieldsList-end all xs t yields o _ none last in
-        let k = ap length (sym (flat_map-map line_text (λ y. y.now) xs) ∙ ap listing_text e.0) in
-        let h : length (listing_text c.args.entries.now) ≤ c.args.bytes = omega arith in search rules)
-      (λ x (w, u, v, called, is, result) turn some.
-        let h : (left < length (line_text x.now)) × (length (line_text x.now) ≤ 90) = search (rules, tests) in
-        let e = YieldsList-turn all xs t yields o _ x some last in
-        let s = YieldsList-so_far all xs t yields in
-        let m = length-flat_map-take line_text c.args.entries.now (length xs) x.now e.0 in
-        let k = ap length (sym (flat_map-map line_text (λ y. y.now) xs) ∙ ap listing_text s) in
-        let g = ap (λ y. length (line_text y)) e.1 in
-        let long : c.args.bytes < length (listing_text c.args.entries.now) = omega arith in
-        let b = j.1 in
-        (search rules, λ roomy. absurd (omega arith)))
+    (λ result end none.
+    let e = YieldsList-end all xs t yields o _ none last in
+    let k = ap length (sym (flat_map-map line_text (λ y. y.now) xs) ∙ ap listing_text e.0) in
+    let h : length (listing_text c.args.entries.now) ≤ c.args.bytes = omega arith in search rules)
+    (λ x (w, u, v, called, is, result) turn some.
+    let h : (left < length (line_text x.now)) × (length (line_text x.now) ≤ 90) = search (rules, tests) in
+    let e = YieldsList-turn all xs t yields o _ x some last in
+    let s = YieldsList-so_far all xs t yields in
+    let m = length-flat_map-take line_text c.args.entries.now (length xs) x.now e.0 in
+    let k = ap length (sym (flat_map-map line_text (λ y. y.now) xs) ∙ ap listing_text s) in
+    let g = ap (λ y. length (line_text y)) e.1 in
+    let long : c.args.bytes < length (listing_text c.args.entries.now) = omega arith in
+    let b = j.1 in
+    (search rules, λ roomy. absurd (omega arith)))
 
 pub returns-clause-value : goal.returns-clause-value
 returns-clause-value c = (told c).0

@@ -1,7 +1,7 @@
-use Rattle.std.proofs.Common.{[], get_or, take, sym, ap, ◌∙◌, arith, length-drop, rules}
+use Rattle.std.proofs.Common.{[], get_or, take, sym, ap, ◌∙◌, arith, length-drop}
 use Rattle.listing.specs.declared.entries.Entry.TheVariants.{Done}
 use Rattle.listing.specs.Text.{line_text, listing_text}
-use Rattle.std.proofs.lemmas.List.{take_rest, take_more, take_all, flat_map_more}
+use Rattle.std.proofs.lemmas.List.{take_rest, take_more, flat_map_more}
 use Rattle.std.proofs.lemmas.List.Folds.{length-flat_map-take}
 use Rattle.listing.proofs.Lays.{begun_more}
 use Rattle.listing.proofs.listings.write_lines.Goals as goal
@@ -11,10 +11,6 @@ write-end-requires c =
     let m = length-flat_map-take line_text c.args.entries.now c.loop-entry.entry-index (Done 0) c.loop-entry-test.true in
     simp (take_rest, length-drop) (omega arith)
 
-pub overflow_add-end : goal.overflow_add-end
-overflow_add-end c =
-    let m = length-flat_map-take line_text c.args.entries.now c.loop-entry.entry-index (Done 0) c.loop-entry-test.true in search rules
-
 pub loop-entry-preserved : goal.loop-entry-preserved
 loop-entry-preserved c =
     let xs = c.args.entries.now in
@@ -22,8 +18,3 @@ loop-entry-preserved c =
     let m = length-flat_map-take line_text xs i (Done 0) c.loop-entry-test.true in
     rw (ap listing_text (take_more xs i (Done 0) c.loop-entry-test.true) ∙ sym (flat_map_more line_text [] (take i xs) (get_or xs i (Done 0))))
     (begun_more c.args.out.now (listing_text (take i xs)) (line_text (get_or xs i (Done 0))) c.loop-entry.out _ _ _ c.loop-entry.invariant c.write-end.ensures.after c.write-end.ensures.count (omega arith))
-
-pub returns : goal.returns
-returns c =
-    let l = rw (ap listing_text (take_all c.loop-entry.entry-index c.args.entries.now c.loop-entry-test.false)) at c.loop-entry.invariant in
-    record { count = l.ends; after = l.holds }

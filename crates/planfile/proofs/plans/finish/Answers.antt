@@ -5,6 +5,7 @@ use Rattle.figures.proofs.TableFacts.{few}
 use Rattle.records.specs.Records.{state_of, table}
 use Rattle.planfile.specs.Points.{Stops, noted}
 use Rattle.planfile.specs.Stages.{networked}
+use Rattle.planfile.proofs.FigureLines.{sound}
 use Rattle.planfile.proofs.Whole.{finishes}
 use Rattle.planfile.proofs.plans.finish.Goals as goal
 
@@ -31,5 +32,4 @@ returns c =
     finishes (noted c.args.journal.now) (networked (state_of c.close-network.result.records)) (networked _) w.at w.rest.now room
     (noted c.run.new.journal) (noted c.list_figures.new.journal) (state_of net.records)
     (ap networked c.close-network.ensures.state) (c.in_ok-run.ensures room)
-    (record { kept = net.kept; differ = net.differ; sixteen = net.sixteen; fields = net.fields })
-    net.passing c.list_figures.ensures
+    (sound net) net.passing c.list_figures.ensures

@@ -1,4 +1,4 @@
-use Rattle.std.proofs.Common.{Ok, Err, sym, refl, ap, ◌∙◌, arith}
+use Rattle.std.proofs.Common.{Ok, Err, sym, refl, ap, ◌∙◌}
 use Rattle.std.proofs.lemmas.Option.{MatchOption-at_none, MatchOption-at_some}
 use Rattle.std.proofs.lemmas.Result.{err_from_is_err_and}
 use Rattle.wire.specs.Walks.{Ended, Met}
@@ -6,7 +6,7 @@ use Rattle.planfile.specs.declared.phases.Phase.TheVariants.{Drafting}
 use Rattle.planfile.specs.Points.{Took, noted}
 use Rattle.planfile.specs.Stages.{drafted, read_in}
 use Rattle.planfile.proofs.Handover.{handed_at_call, handed_at_end, line_took, said_fault}
-use Rattle.planfile.proofs.Reached.{cut_stops, fitting_on, leads_on, met_length, took_stops}
+use Rattle.planfile.proofs.Reached.{cut_stops, fitting_on, leads_on, took_stops}
 use Rattle.planfile.proofs.Taking.{misread_took}
 use Rattle.planfile.proofs.readers.read_lines.Goals as goal
 
@@ -68,15 +68,6 @@ returns-in_err-note c =
     (took_stops (noted c.args.journal.now) (drafted c.args.draft.now.rack) w.at w.rest.now
     (noted c.loop-record.journal) (drafted c.loop-record.draft.rack) a.at a.rest.now c.loop-record.invariant.0 c.loop-record.invariant.1 place front n.at n.rest.now met
     fault (drafted c.add_line.new.self.rack) (noted c.note.new.self) took)
-
-pub loop-record-smaller : goal.loop-record-smaller
-loop-record-smaller c =
-    let a = c.loop-record.ahead in
-    let n = c.next.new.self in
-    let place = c.in-Some.record.at in
-    let front = c.in-Some.record.bytes.now in
-    let met : Met a.at a.rest.now place front n.at n.rest.now = MatchOption-at_some _ _ c.in-Some.record c.in-Some.is c.in_ok-record.ensures in
-    omega (arith, (met_length a.at place a.rest.now front n.at n.rest.now met).0)
 
 pub loop-record-preserved : goal.loop-record-preserved
 loop-record-preserved c =

@@ -5,13 +5,13 @@ use Rattle.records.specs.Records.{state_of, table}
 use Rattle.planfile.specs.Kinds.{plan_alpha}
 use Rattle.planfile.specs.Points.{noted}
 use Rattle.network.proofs.FiguresTold.{figures_there}
-use Rattle.planfile.proofs.FigureLines.{network_added, streams_length}
+use Rattle.planfile.proofs.FigureLines.{sound, network_added, streams_length}
 use Rattle.planfile.proofs.told.list_figures.Goals as goal
 
 pub unreachable-requires : goal.unreachable-requires
 unreachable-requires c =
     let net = c.args.network.now in
-    ∥∥₁_elim net.passing (elim [ ]) (λ P. figures_there plan_alpha (state_of net.records) (record { kept = net.kept; differ = net.differ; sixteen = net.sixteen; fields = net.fields })
+    ∥∥₁_elim net.passing (elim [ ]) (λ P. figures_there plan_alpha (state_of net.records) (sound net)
     P c.in_default.field-0
     (subst₂ (λ r t. FiguresTold plan_alpha r t (Err c.in_default.field-0)) c.as_table-view.ensures.rack c.as_table-view.ensures.streams c.in_default.ensures))
 

@@ -7,7 +7,7 @@ use Rattle.network.proofs.FiguresTold.{line_by_figures}
 use Rattle.planfile.specs.Figures.{LinesListed, no_line}
 use Rattle.planfile.specs.Kinds.{plan_alpha}
 use Rattle.planfile.specs.Points.{noted}
-use Rattle.planfile.proofs.FigureLines.{absent_added, line_added, none_added}
+use Rattle.planfile.proofs.FigureLines.{sound, absent_added, line_added, none_added}
 use Rattle.planfile.proofs.told.list_lines.Goals as goal
 
 -- one step over the needs
@@ -43,7 +43,7 @@ loop-number-preserved-in-Some-line c =
     let there = ap (line_at net.records.rack) (sym is) ∙ sym c.line.ensures ∙ c.in-Some-line.is in
     let noted_is = c.push.ensures ∙ ap (λ k. noted c.loop-number.journal ++ Entry.Line k c.in-Some-need.need c.in-Some-line.line.places ∷ []) is in
     let answer =
-    line_by_figures plan_alpha st (record { kept = net.kept; differ = net.differ; sixteen = net.sixteen; fields = net.fields })
+    line_by_figures plan_alpha st (sound net)
     c.args.figures.now c.requires.figures n low (omega (arith, step.0)) c.in-Some-line.line there c.in-Some-need.need (step.1 ∙ c.in-Some-need.is) in
     let on : c.next.new.self.a.start ≡ n + 1 = next ∙ ap (λ k. k + 1) is in
     rw on (

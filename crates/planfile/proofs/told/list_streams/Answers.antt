@@ -7,7 +7,7 @@ use Rattle.network.proofs.FiguresTold.{stream_by_delays}
 use Rattle.planfile.specs.Figures.{StreamsListed, no_stream}
 use Rattle.planfile.specs.Kinds.{plan_alpha}
 use Rattle.planfile.specs.Points.{noted}
-use Rattle.planfile.proofs.FigureLines.{none_added, stream_added, unread}
+use Rattle.planfile.proofs.FigureLines.{sound, none_added, stream_added, unread}
 use Rattle.planfile.proofs.told.list_streams.Goals as goal
 
 pub loop-place-init : goal.loop-place-init
@@ -28,7 +28,7 @@ loop-place-preserved c =
     let told : StreamTold net.records.rack (table net.records) c.args.delays.now i c.in-Some.told =
     subst₂ (λ r t. StreamTold r t c.args.delays.now i c.in-Some.told) c.requires.rack c.requires.streams c.in-Some.ensures in
     let answer =
-    stream_by_delays plan_alpha (state_of net.records) (record { kept = net.kept; differ = net.differ; sixteen = net.sixteen; fields = net.fields })
+    stream_by_delays plan_alpha (state_of net.records) (sound net)
     c.args.delays.now c.requires.delays i s unread less is c.in-Some.told told in (
       stream_added (state_of net.records) i s unread less is c.in-Some.told
           (noted c.args.journal.now) (noted c.loop-place.journal) (noted c.push.new.self) answer c.loop-place.invariant.0 c.push.ensures,
