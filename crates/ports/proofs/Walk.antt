@@ -140,12 +140,3 @@ module _ {C : ℕ} {α β : ℕ → ℕ} (some : 1 ≤ α 1) (rising : Rising α
         met = met_more.2;
       };
     }
-
-  pub walk_endless : {k d from e : ℕ} → Walk C α β k d from e → Wait C β k None → NoDelay C α β
-  walk_endless {k} walk none = record {
-    wait = walk.wait;
-    cell = k;
-    waits = walk.waits;
-    goes_on = walk.goes_on;
-    endless = none;
-  }
