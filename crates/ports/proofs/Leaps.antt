@@ -1,10 +1,10 @@
 -- The least fixed point of a function that never falls, by steps from below.
-use Rattle.std.proofs.Common.{◌≡◌, ℕ, zero, suc, ◌+◌, ◌-◌, ◌*◌, ◌<◌, ◌≤◌, min, None, ap, ◌∙◌, inl, inr, add-mul, mul-le-mul_left, one-mul, mul-one, arith}
+use Rattle.std.proofs.Common.{◌≡◌, ℕ, zero, suc, ◌+◌, ◌<◌, ◌≤◌, inl, inr, add-mul, mul-le-mul_left, one-mul, arith}
 use Rattle.std.proofs.lemmas.Bool.{cases_lt}
 use Rattle.arrivals.specs.Limits.{longest}
 use Rattle.ports.specs.Limits.{horizon}
 use Rattle.ports.specs.Loads.{Rising, Below}
-use Rattle.ports.specs.Port.{ahead, Starts, Wait}
+use Rattle.ports.specs.Port.{ahead}
 
 -- a step from below stays below
 pub below_step : (f : ℕ → ℕ) (high : ℕ) → ((v w : ℕ) → v ≤ w → w ≤ high → f v ≤ f w) → (w n : ℕ) → w ≤ high → n ≡ f w → Below f high w → Below f high n

@@ -1,10 +1,10 @@
 -- A walk over the cells of a busy period, one after the other, to the last.
-use Rattle.std.proofs.Common.{◌≡◌, ℕ, ◌+◌, ◌-◌, ◌<◌, ◌≤◌, max, cond, eqb, ◌⊎◌, Some, None, sym, refl, subst, inl, inr, arith}
+use Rattle.std.proofs.Common.{◌≡◌, ℕ, ◌+◌, ◌-◌, ◌<◌, ◌≤◌, max, cond, eqb, ◌⊎◌, Some, sym, refl, subst, inl, inr, arith}
 use Rattle.std.proofs.lemmas.Bool.{cases_lt, cond-true, cond-false, eq-eqb, ne_eqb}
 use Rattle.arrivals.specs.Least.{Least}
 use Rattle.ports.specs.Limits.{horizon}
 use Rattle.ports.specs.Loads.{Rising, Below}
-use Rattle.ports.specs.Port.{ahead, Starts, Wait, Queued, Delay, NoDelay}
+use Rattle.ports.specs.Port.{ahead, Starts, Wait, Queued, Delay}
 use Rattle.ports.proofs.Leaps.{below_step, fixed_under, ahead_rises_near, ahead_more}
 
 -- f, but v at k

@@ -1,8 +1,7 @@
 use Rattle.std.proofs.Common.{◌≡◌, ℕ, ◌+◌, ◌≤◌, min, subst, arith}
 use Rattle.arrivals.specs.Limits.{longest}
 use Rattle.ports.specs.Limits.{horizon}
-use Rattle.ports.proofs.Leaps.{no_wait}
-use Rattle.ports.proofs.Walk.{walk_none, walk_more, walk_ends, walk_endless}
+use Rattle.ports.proofs.Walk.{walk_none, walk_more, walk_ends}
 use Rattle.ports.proofs.ports.Port.delay.Goals as goal
 
 -- what a load answers for the window w + 1 is its value there
