@@ -5,7 +5,6 @@ pub mod Computed
 pub mod WorkedPlan
 pub mod Hopwise
 pub mod TableFacts
-pub mod Totals
 pub mod HopScan
 pub mod ByPriority
 pub mod Maps

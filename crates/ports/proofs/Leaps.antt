@@ -1,10 +1,10 @@
 -- The least fixed point of a function that never falls, by steps from below.
-use Rattle.std.proofs.Common.{◌≡◌, ℕ, zero, suc, ◌+◌, ◌-◌, ◌*◌, ◌<◌, ◌≤◌, min, None, ap, ◌∙◌, inl, inr, add-mul, mul-le-mul_left, one-mul, mul-one, arith}
+use Rattle.std.proofs.Common.{◌≡◌, ℕ, zero, suc, ◌+◌, ◌<◌, ◌≤◌, inl, inr, add-mul, mul-le-mul_left, one-mul, arith}
 use Rattle.std.proofs.lemmas.Bool.{cases_lt}
 use Rattle.arrivals.specs.Limits.{longest}
 use Rattle.ports.specs.Limits.{horizon}
 use Rattle.ports.specs.Loads.{Rising, Below}
-use Rattle.ports.specs.Port.{ahead, Starts, Wait}
+use Rattle.ports.specs.Port.{ahead}
 
 -- a step from below stays below
 pub below_step : (f : ℕ → ℕ) (high : ℕ) → ((v w : ℕ) → v ≤ w → w ≤ high → f v ≤ f w) → (w n : ℕ) → w ≤ high → n ≡ f w → Below f high w → Below f high n
@@ -32,20 +32,6 @@ module _ (C : ℕ) (β : ℕ → ℕ) (rising : Rising β) where
   pub ahead_rises_near : (k v w : ℕ) → v ≤ w → w ≤ horizon → ahead C β k v ≤ ahead C β k w
   ahead_rises_near k v w h near = ahead_rises k v w h (omega arith)
 
--- what the code adds up is what goes before the cell
-pub ahead_is : (C : ℕ) (β : ℕ → ℕ) (k w r : ℕ) → w < longest → r ≡ β (min (w + 1) longest) → (C - 1) + k * C + C * r ≡ ahead C β k w
-ahead_is C β k w r h e =
-    let m : min (w + 1) longest ≡ w + 1 = omega arith in
-    ap (λ x. (C - 1) + k * C + C * x) (e ∙ ap β m)
-
--- a cell waits a tick at least for each before it
-pub index_le : (C : ℕ) (β : ℕ → ℕ) (k w : ℕ) → 1 ≤ C → Starts C β k w → k ≤ w
-index_le C β k w pos e = omega (arith, mul-le-mul_left {m = 1} {n = C} k pos, mul-one k)
-
--- so that no cell beyond the horizon has a wait
-pub no_wait : (C : ℕ) (β : ℕ → ℕ) (k : ℕ) → 1 ≤ C → horizon < k → Wait C β k None
-no_wait C β k pos far w near starts = absurd (omega (arith, index_le C β k w pos starts))
-
--- and the next cell has a cell time more before it
+-- the next cell has a cell time more before it
 pub ahead_more : (C : ℕ) (β : ℕ → ℕ) (k w : ℕ) → ahead C β (k + 1) w ≡ ahead C β k w + C
 ahead_more C β k w = omega (arith, add-mul k 1 C, one-mul C)

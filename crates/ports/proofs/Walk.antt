@@ -1,10 +1,10 @@
 -- A walk over the cells of a busy period, one after the other, to the last.
-use Rattle.std.proofs.Common.{◌≡◌, ℕ, ◌+◌, ◌-◌, ◌<◌, ◌≤◌, max, cond, eqb, ◌⊎◌, Some, None, sym, refl, subst, inl, inr, arith}
+use Rattle.std.proofs.Common.{◌≡◌, ℕ, ◌+◌, ◌-◌, ◌<◌, ◌≤◌, max, cond, eqb, ◌⊎◌, Some, sym, refl, subst, inl, inr, arith}
 use Rattle.std.proofs.lemmas.Bool.{cases_lt, cond-true, cond-false, eq-eqb, ne_eqb}
 use Rattle.arrivals.specs.Least.{Least}
 use Rattle.ports.specs.Limits.{horizon}
 use Rattle.ports.specs.Loads.{Rising, Below}
-use Rattle.ports.specs.Port.{ahead, Starts, Wait, Queued, Delay, NoDelay}
+use Rattle.ports.specs.Port.{ahead, Starts, Wait, Queued, Delay}
 use Rattle.ports.proofs.Leaps.{below_step, fixed_under, ahead_rises_near, ahead_more}
 
 -- f, but v at k
@@ -140,12 +140,3 @@ module _ {C : ℕ} {α β : ℕ → ℕ} (some : 1 ≤ α 1) (rising : Rising α
         met = met_more.2;
       };
     }
-
-  pub walk_endless : {k d from e : ℕ} → Walk C α β k d from e → Wait C β k None → NoDelay C α β
-  walk_endless {k} walk none = record {
-    wait = walk.wait;
-    cell = k;
-    waits = walk.waits;
-    goes_on = walk.goes_on;
-    endless = none;
-  }

@@ -1,19 +1,10 @@
 use Rattle.std.proofs.Common.{ap, ◌∙◌}
 use Rattle.figures.specs.Racks.{cell_time}
-use Rattle.figures.specs.GroupSums.{lawful, seen_some}
-use Rattle.figures.proofs.Hopwise.{delay_told, delay_near}
+use Rattle.figures.proofs.Hopwise.{delay_told}
 use Rattle.figures.proofs.traffic.Traffic.delay.Goals as goal
-
-pub delay-requires : goal.delay-requires
-delay-requires g c =
-    let m = g.met.K.Arrival in
-    seen_some g.K.Arrival.alpha (lawful m.none m.some m.rises m.small) _ _
 
 pub returns-clause-told : goal.returns-clause-told
 returns-clause-told g c =
     let traffic = c.args.self.now in
     delay_told g.K.Arrival.alpha traffic.rack.now traffic.streams.now c.args.hop traffic.late c.args.place c.index-self-place.result c.port.result.cell_time c.above.result c.delay.result c.requires
     (c.port.ensures.cell_time ∙ ap (cell_time traffic.rack.now) c.line.ensures) c.above.ensures (rw c.port.ensures.load at c.delay.ensures)
-
-pub returns-clause-near : goal.returns-clause-near
-returns-clause-near g c = delay_near _ _ _ _ c.delay.ensures

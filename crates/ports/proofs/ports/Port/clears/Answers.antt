@@ -8,10 +8,6 @@ use Rattle.ports.proofs.ports.Port.clears.Goals as goal
 busy : (g : given.Over) (c : goal.Else-cells-saturating_sub g) → (c.loop-u.u + 1 - c.from-cell.result) / c.from-cell.result < c.from-cells.result
 busy g c = rw c.saturating_sub.ensures at c.if-cells-saturating_sub.false
 
-pub loop-u-smaller : goal.loop-u-smaller
-loop-u-smaller g c =
-    omega (arith, not_clear c.from-cell.result (omega arith) c.from-cells.result c.loop-u.u (busy g c))
-
 pub loop-u-preserved : goal.loop-u-preserved
 loop-u-preserved g c =
     let C = c.from-cell.result in

@@ -1,8 +1,7 @@
 use Rattle.std.proofs.Common.{◌≡◌, ℕ, ◌+◌, ◌≤◌, min, subst, arith}
 use Rattle.arrivals.specs.Limits.{longest}
 use Rattle.ports.specs.Limits.{horizon}
-use Rattle.ports.proofs.Leaps.{no_wait}
-use Rattle.ports.proofs.Walk.{walk_none, walk_more, walk_ends, walk_endless}
+use Rattle.ports.proofs.Walk.{walk_none, walk_more, walk_ends}
 use Rattle.ports.proofs.ports.Port.delay.Goals as goal
 
 -- what a load answers for the window w + 1 is its value there
@@ -13,21 +12,6 @@ at_is f w r near e =
 
 pub loop-index-init : goal.loop-index-init
 loop-index-init g c = walk_none c.requires (g.met.A.Load.rises _) (g.met.L.Load.rises _)
-
-pub wait-requires : goal.wait-requires
-wait-requires g c = c.loop-index.invariant.below
-
-pub returns-in_err-w : goal.returns-in_err-w
-returns-in_err-w g c =
-    rw c.from_residual.ensures (walk_endless c.requires (g.met.A.Load.rises _) (g.met.L.Load.rises _) c.loop-index.invariant c.in_err-w.ensures)
-
-pub earliest-early-requires : goal.earliest-early-requires
-earliest-early-requires g c =
-    let s = c.in_ok-w.ensures in
-    record { near = s.0; queued = c.loop-index.invariant.reach _ s; after = c.loop-index.invariant.after }
-
-pub overflow_sub-w : goal.overflow_sub-w
-overflow_sub-w g c = c.earliest-early.ensures.first _ (c.loop-index.invariant.reach _ c.in_ok-w.ensures)
 
 pub returns-then-at-index : goal.returns-then-at-index
 returns-then-at-index g c =
@@ -42,7 +26,3 @@ loop-index-preserved g c =
     let n : c.at.result ≡ g.A.Load.load c.args.own.now (c.in_ok-w.w + 1) = at_is (g.A.Load.load c.args.own.now) _ _ s.0 c.at.ensures in
     rw c.max-worst.ensures
     (walk_more c.requires (g.met.A.Load.rises _) (g.met.L.Load.rises _) c.loop-index.invariant s c.earliest-early.ensures (omega arith))
-
-pub returns : goal.returns
-returns g c =
-    walk_endless c.requires (g.met.A.Load.rises _) (g.met.L.Load.rises _) c.loop-index.invariant (no_wait c.args.self.now.cell_time (g.L.Load.load c.args.self.now.load) c.loop-index.index (omega arith) (omega arith))
