@@ -1,21 +1,16 @@
 -- The parts of the check, as the loops find them.
-use Rattle.std.proofs.Common.{◌≡◌, ℕ, ◌+◌, ◌<◌, ◌≤◌, List, ◌++◌, length, get_or, take, drop, Some, None, Ok, Err, Option, sym, refl, ap, ◌∙◌, subst, inl, inr, arith}
+use Rattle.std.proofs.Common.{◌≡◌, ℕ, ◌+◌, ◌<◌, ◌≤◌, List, ◌++◌, length, get_or, take, drop, sym, refl, ap, ◌∙◌, subst, inl, inr, arith}
 use Rattle.std.proofs.lemmas.List.{take-append-drop, get_or_default}
 use Rattle.std.proofs.lemmas.Bool.{cases_lt}
 use Rattle.std.specs.List.{HoldsAt}
 use Rattle.figures.specs.declared.delays.Delays.{Delays as Listing}
 use Rattle.figures.specs.declared.delays.StreamFigures.{StreamFigures}
-use Rattle.figures.specs.declared.faults.FigureFault.{FigureFault}
-use Rattle.figures.specs.declared.faults.FigureFault.TheVariants.{NoDelay, NoNeed}
-use Rattle.figures.specs.declared.racks.Line.{Line}
 use Rattle.figures.specs.declared.racks.Rack.{Rack}
 use Rattle.figures.specs.declared.streams.Stream.{Stream}
-use Rattle.figures.specs.Racks.{line_at}
 use Rattle.figures.specs.Tables.{◌∈◌, total}
-use Rattle.figures.specs.Told.{Listed, StreamTold, NeedOf, NeedTold}
+use Rattle.figures.specs.Told.{Listed, StreamTold}
 use Rattle.figures.proofs.Items.{drop_item, in_front, in_place}
-use Rattle.admission.specs.declared.faults.TableFault.TheVariants.{Figure, Cramped}
-use Rattle.admission.specs.Checks.{FirstOf, InTime, TooLate, Fits, Fails}
+use Rattle.admission.specs.Checks.{FirstOf, InTime, TooLate}
 
 module _ {K : Type 0} (rack : Rack) (table : List (Stream K)) (figures : Listing) where
   -- the streams below the place i are in time
@@ -61,26 +56,3 @@ module _ {K : Type 0} (rack : Rack) (table : List (Stream K)) (figures : Listing
   all_in_time below q1 q2 first second s m =
       let p = in_place table s m in
       subst (InTime rack q1 q2) (sym (p.2 s)) (below q1 q2 first second p.0 p.1 s)
-
-module _ {K : Type 0} (α : K → ℕ → ℕ) (rack : Rack) (table : List (Stream K)) (q1 : Stream K → ℕ) (l : ℕ) (line : Line) (at : Some line ≡ line_at rack l) where
-  -- what is told of the line that is there
-  on_line : (r : Option ℕ) → NeedOf α rack table q1 l (line_at rack l) r → NeedOf α rack table q1 l (Some line) r
-  on_line r need = subst (λ o. NeedOf α rack table q1 l o r) (sym at) need
-
-  pub line_fits : (n : ℕ) → NeedTold α rack table q1 l (Ok (Some n)) → n ≤ line.places → Fits α rack table q1 l (line_at rack l)
-  line_fits n need le = subst (Fits α rack table q1 l) at (n, on_line (Some n) need, le)
-
-  pub line_cramped : (n : ℕ) → NeedTold α rack table q1 l (Ok (Some n)) → line.places < n → Fails α rack table q1 l (line_at rack l) (Cramped l)
-  line_cramped n need more =
-      subst (λ o. Fails α rack table q1 l o (Cramped l)) at (refl, (n, on_line (Some n) need, more))
-
-  pub line_never : (f : FigureFault) → NeedTold α rack table q1 l (Err f) → Fails α rack table q1 l (line_at rack l) (Figure f)
-  line_never (NoNeed m) told =
-      subst (λ o. Fails α rack table q1 l o (Figure (NoNeed m))) at (told.0, on_line None told.1)
-  line_never (NoDelay s) told = absurd told
-
-  pub line_there : {X : Type 0} → NeedTold α rack table q1 l (Ok None) → X
-  line_there absent = let both : Some line ≡ None = at ∙ absent in absurd (some_none both)
-    where
-      some_none : Some line ≡ None → ⊥
-      some_none e = let z : ◌≡◌ {A = ℕ} 0 1 = cc in omega arith

@@ -1,13 +1,11 @@
 -- What the figures of a table say in answer to a figure call.
-use Rattle.std.proofs.Common.{◌≡◌, ℕ, List, Some, None, Ok, Err, Option, Result, sym, refl, ◌∙◌, subst, subst₂, inl, inr, arith}
+use Rattle.std.proofs.Common.{◌≡◌, ℕ, List, None, Ok, Err, Option, Result, sym, refl, subst, subst₂, inr}
 use Rattle.figures.specs.declared.delays.Delays.{Delays as Listing}
 use Rattle.figures.specs.declared.delays.StreamFigures.{StreamFigures}
 use Rattle.figures.specs.declared.faults.FigureFault.{FigureFault}
-use Rattle.figures.specs.declared.racks.Line.{Line}
 use Rattle.figures.specs.declared.racks.Rack.{Rack}
 use Rattle.figures.specs.declared.streams.Stream.{Stream}
-use Rattle.figures.specs.Racks.{line_at}
-use Rattle.figures.specs.Told.{DelaysAre, DelaysTold, NeedOf, NeedTold, NeedToldFor, StreamTold}
+use Rattle.figures.specs.Told.{DelaysAre, NeedTold, NeedToldFor, StreamTold}
 use Rattle.admission.specs.declared.faults.TableFault.TheVariants.{Figure}
 use Rattle.records.specs.Lists.{number_at}
 use Rattle.records.specs.States.{State, unknown_stream, unknown_line, StreamAsked, StreamAnswer, LineAsked, LineAnswer}
@@ -16,9 +14,6 @@ use Rattle.records.specs.States.{State, unknown_stream, unknown_line, StreamAske
 module _ {K : Type 0} (α : K → ℕ → ℕ) (st : State K) (r : Rack) (t : List (Stream K)) (same_rack : r ≡ st.rack) (same_table : t ≡ st.streams) where
   are_here : (delays : Listing) → DelaysAre α r t delays → DelaysAre α st.rack st.streams delays
   are_here delays are = subst₂ (λ x y. DelaysAre α x y delays) same_rack same_table are
-
-  fault_here : (x : FigureFault) → DelaysTold α r t (Err x) → DelaysTold α st.rack st.streams (Err x)
-  fault_here x told = subst₂ (λ y z. DelaysTold α y z (Err x)) same_rack same_table told
 
   need_here : (delays : Listing) (l : ℕ) (x : Result (Option ℕ) FigureFault) → NeedToldFor α r t delays.q1 l x → NeedToldFor α st.rack st.streams delays.q1 l x
   need_here delays l x told = subst₂ (λ y z. NeedToldFor α y z delays.q1 l x) same_rack same_table told
@@ -30,13 +25,7 @@ module _ {K : Type 0} (α : K → ℕ → ℕ) (st : State K) (r : Rack) (t : Li
         subst (λ o. StreamAsked α st o n (Ok f)) (sym known)
         (delays, are_here delays are, subst (λ k. StreamTold st.rack st.streams delays k f) at here)
 
-    pub stream_unfigured : (x : FigureFault) → DelaysTold α r t (Err x) → StreamAnswer α st n (Err (Figure x))
-    stream_unfigured x told = subst (λ o. StreamAsked α st o n (Err (Figure x))) (sym known) (x, refl, fault_here x told)
-
   module _ (l : ℕ) (known : unknown_line st l ≡ None) where
-    pub line_undelayed : (x : FigureFault) → DelaysTold α r t (Err x) → LineAnswer α st l (Err (Figure x))
-    line_undelayed x told = subst (λ o. LineAsked α st o l (Err (Figure x))) (sym known) (x, refl, inl (fault_here x told))
-
     module _ (delays : Listing) (are : DelaysAre α r t delays) where
       need_of : (x : Result (Option ℕ) FigureFault) → NeedToldFor α r t delays.q1 l x → NeedTold α st.rack st.streams (are_here delays are).q1 l x
       need_of x told = need_here delays l x told (are_here delays are).q1 (are_here delays are).first_listed
@@ -45,22 +34,3 @@ module _ {K : Type 0} (α : K → ℕ → ℕ) (st : State K) (r : Rack) (t : Li
       line_unneeded x told =
           subst (λ o. LineAsked α st o l (Err (Figure x))) (sym known)
           (x, refl, inr (record { q1 = (are_here delays are).q1; q2 = (are_here delays are).q2; delays = (are_here delays are).are; never = need_of (Err x) told }))
-
-      pub line_asked : (line : Line) → Some line ≡ line_at st.rack l → (n : ℕ) → NeedToldFor α r t delays.q1 l (Ok (Some n)) → LineAnswer α st l (Ok (record { need = n; places = line.places }))
-      line_asked line at n told =
-          subst (λ o. LineAsked α st o l (Ok (record { need = n; places = line.places }))) (sym known)
-          (record {
-            q1 = (are_here delays are).q1;
-            q2 = (are_here delays are).q2;
-            delays = (are_here delays are).are;
-            line = line;
-            there = sym at;
-            need_is = subst (λ o. NeedOf α st.rack st.streams (are_here delays are).q1 l o (Some n)) (sym at) (need_of (Ok (Some n)) told);
-            places_are = refl;
-          })
-
-      pub line_is_there : (line : Line) → Some line ≡ line_at st.rack l → NeedToldFor α r t delays.q1 l (Ok None) → ⊥
-      line_is_there line at told =
-          let e : Some line ≡ None = at ∙ need_of (Ok None) told in
-          let z : ◌≡◌ {A = ℕ} 0 1 = cc in
-          omega arith

@@ -1,5 +1,5 @@
 -- What the memory holds once a record is in, and what the verdict leaves of it.
-use Rattle.std.proofs.Common.{◌≡◌, ℕ, ◌+◌, ◌<◌, ◌≤◌, true, false, List, ◌++◌, length, take, drop, is_err, Ok, Err, Result, refl, ap, ◌∙◌, arith}
+use Rattle.std.proofs.Common.{◌≡◌, ℕ, ◌+◌, ◌<◌, ◌≤◌, true, List, ◌++◌, length, take, drop, is_err, Ok, Err, Result, refl, ap, ◌∙◌, arith}
 use Rattle.std.proofs.lemmas.List.Edits.{length-insert}
 use Rattle.std.proofs.lemmas.List.{length-append, length-drop, length-take-le, take_at}
 use Rattle.std.specs.List.{insert}
@@ -22,7 +22,3 @@ module _ {X : Type 0} (m n : List X) (len a : ℕ) (e : X) (le : a ≤ len) (lt 
 pub if_failed : {X : Type 0} (r : Result (Unit {0}) TableFault) (new old : X) → is_err r ≡ true → if_passed r new old ≡ old
 if_failed (Ok x) new old e = let z : ◌≡◌ {A = ℕ} 0 1 = cc in absurd (omega arith)
 if_failed (Err f) new old e = refl
-
-pub if_went : {X : Type 0} (r : Result (Unit {0}) TableFault) (new old : X) → is_err r ≡ false → if_passed r new old ≡ new
-if_went (Ok x) new old e = refl
-if_went (Err f) new old e = let z : ◌≡◌ {A = ℕ} 0 1 = cc in absurd (omega arith)

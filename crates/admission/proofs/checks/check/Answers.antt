@@ -1,23 +1,8 @@
-use Rattle.std.proofs.Common.{Ok, Err, subst, subst₂}
-use Rattle.std.proofs.lemmas.Result.{err_from_is_err_and}
+use Rattle.std.proofs.Common.{Ok, subst, subst₂}
 use Rattle.figures.specs.Told.{DelaysAre}
 use Rattle.admission.specs.Checks.{DeadlinesTold, LinesTold}
 use Rattle.admission.proofs.Verdict.{verdict}
 use Rattle.admission.proofs.checks.check.Goals as goal
-
-pub returns-in_err-check_deadlines : goal.returns-in_err-check_deadlines
-returns-in_err-check_deadlines g c =
-    let α = g.K.Arrival.alpha in
-    let rack = c.args.rack.now in
-    let streams = c.args.streams.now in
-    let same = c.in-Some.ensures in
-    let figures = c.in_ok-delays.delays in
-    let p = err_from_is_err_and c.from_residual-in_err-check_deadlines.result c.from_residual-in_err-check_deadlines.ensures.1 in
-    let are : DelaysAre α rack streams figures = subst₂ (λ r t. DelaysAre α r t figures) same.0 same.1 c.in_ok-delays.ensures in
-    let late : DeadlinesTold rack streams figures (Err c.in_err-check_deadlines.field-0.0) =
-    subst (λ r. DeadlinesTold r streams figures (Err c.in_err-check_deadlines.field-0.0)) same.0 c.in_err-check_deadlines.ensures in
-    rw (p.1, p.2, late.1)
-    (record { q1 = are.q1; q2 = are.q2; delays = are.are; first = late.2 are.q1 are.q2 are.first_listed are.second_listed })
 
 pub returns : goal.returns
 returns g c =

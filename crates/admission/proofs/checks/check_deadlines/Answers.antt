@@ -4,9 +4,6 @@ use Rattle.admission.proofs.Parts.{in_time_more, first_late, all_in_time}
 use Rattle.admission.proofs.checks.check_deadlines.Goals as goal
 use Rattle.admission.proofs.checks.check_deadlines.Goals.{in-Some+else-figures-stream, in_default}
 
-pub loop-place-init : goal.loop-place-init
-loop-place-init g c q1 q2 first second j less d = absurd (omega arith)
-
 pub returns-then-figures-stream : goal.returns-then-figures-stream
 returns-then-figures-stream g c =
     let rack = c.args.table.now.rack.now in (

@@ -1,15 +1,6 @@
-use Rattle.std.proofs.lemmas.Result.{err_from_is_err_and}
-use Rattle.records.proofs.Asked.{stream_asked, stream_unfigured}
+use Rattle.records.proofs.Asked.{stream_asked}
 use Rattle.records.proofs.Requests.{state}
 use Rattle.records.proofs.records.Records.stream_figures.Goals as goal
-
-pub returns-in_err-delays : goal.returns-in_err-delays
-returns-in_err-delays g c =
-    let net = c.args.self.now in
-    let same = c.as_table-table.ensures in
-    let p = err_from_is_err_and c.from_residual-in_err-delays.result c.from_residual-in_err-delays.ensures.1 in
-    rw (p.1, p.2)
-    (stream_unfigured g.K.Arrival.alpha (state net.rack net.table.memory.now net.table.len) _ _ same.rack same.streams c.args.number c.in_ok-place.ensures.0 c.in_err-delays.field-0.0 c.in_err-delays.ensures)
 
 pub returns : goal.returns
 returns g c =
