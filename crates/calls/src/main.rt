@@ -55,7 +55,7 @@ fn stream_11(deadline: u32) -> Stream<Kind> {
     }
 }
 
-fn print_answer(rt: HostRuntime, answer: &Answer) -> io::Result<()> {
+fn print_answer(rt: &impl Print, answer: &Answer) -> io::Result<()> {
     match answer {
         Ok(told) => println!(rt; "{told}"),
         Err(fault) => println!(rt; "{fault}"),
@@ -63,7 +63,7 @@ fn print_answer(rt: HostRuntime, answer: &Answer) -> io::Result<()> {
 }
 
 // The figures of the streams that are in, and of both lines.
-fn print_figures(rt: HostRuntime, network: &Network<Kind>) -> io::Result<()> {
+fn print_figures(rt: &impl Print, network: &Network<Kind>) -> io::Result<()> {
     for number in 10..=11u16 {
         if let Ok(told) = network.stream_figures(number) {
             let told = Told::Stream(told);
@@ -79,7 +79,7 @@ fn print_figures(rt: HostRuntime, network: &Network<Kind>) -> io::Result<()> {
 }
 
 // One call after the other, each with its answer and the figures after it.
-fn one_by_one(rt: HostRuntime, draft: Draft) -> io::Result<()> {
+fn one_by_one(rt: &impl Print, draft: Draft) -> io::Result<()> {
     let calls = [
         Call::Request(stream_10(18)),
         Call::Request(stream_11(30)),
@@ -106,7 +106,7 @@ fn one_by_one(rt: HostRuntime, draft: Draft) -> io::Result<()> {
 }
 
 // A list of calls at once, then the answers and the figures of the network that is left.
-fn at_once(rt: HostRuntime, draft: Draft) -> io::Result<()> {
+fn at_once(rt: &impl Print, draft: Draft) -> io::Result<()> {
     let calls = [
         Call::Request(stream_11(30)),
         Call::OfStream(11),
@@ -128,10 +128,10 @@ fn at_once(rt: HostRuntime, draft: Draft) -> io::Result<()> {
 
 fn main(rt: HostRuntime) -> io::Result<()> {
     if let Ok(draft) = draft() {
-        one_by_one(rt, draft)?;
+        one_by_one(&rt, draft)?;
     }
     if let Ok(draft) = draft() {
-        at_once(rt, draft)?;
+        at_once(&rt, draft)?;
     }
     Ok(())
 }

@@ -4,7 +4,7 @@
 use arrivals::{Arrival, Bucket, KindFault, Message};
 use std::io;
 
-fn print_counts(rt: HostRuntime, message: &Message, bucket: &Bucket) -> io::Result<()> {
+fn print_counts(rt: &impl Print, message: &Message, bucket: &Bucket) -> io::Result<()> {
     println!(rt; "window message bucket")?;
     for window in 1..26 {
         let of_message = message.count(window);
@@ -14,7 +14,7 @@ fn print_counts(rt: HostRuntime, message: &Message, bucket: &Bucket) -> io::Resu
     Ok(())
 }
 
-fn print_made(rt: HostRuntime, name: &str, made: Result<Message, KindFault>) -> io::Result<()> {
+fn print_made(rt: &impl Print, name: &str, made: Result<Message, KindFault>) -> io::Result<()> {
     match made {
         Ok(_) => println!(rt; "{name}: accepted"),
         Err(fault) => {
@@ -26,8 +26,8 @@ fn print_made(rt: HostRuntime, name: &str, made: Result<Message, KindFault>) -> 
 
 fn main(rt: HostRuntime) -> io::Result<()> {
     if let (Ok(message), Ok(bucket)) = (Message::new(20, 0, 3, 2), Bucket::new(2, 10)) {
-        print_counts(rt, &message, &bucket)?;
+        print_counts(&rt, &message, &bucket)?;
     }
-    print_made(rt, "message T 6 J 0 N 3 g 2", Message::new(6, 0, 3, 2))?;
-    print_made(rt, "message T 5 J 0 N 3 g 2", Message::new(5, 0, 3, 2))
+    print_made(&rt, "message T 6 J 0 N 3 g 2", Message::new(6, 0, 3, 2))?;
+    print_made(&rt, "message T 5 J 0 N 3 g 2", Message::new(5, 0, 3, 2))
 }

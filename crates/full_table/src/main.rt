@@ -76,7 +76,7 @@ fn streams() -> [Stream<Kind>; MOST_STREAMS] {
 }
 
 fn print_streams(
-    rt: HostRuntime,
+    rt: &impl Print,
     table: &Table<Kind>,
     streams: &[Stream<Kind>],
     figures: &Figures,
@@ -90,7 +90,7 @@ fn print_streams(
     Ok(())
 }
 
-fn print_needs(rt: HostRuntime, figures: &Figures) -> io::Result<()> {
+fn print_needs(rt: &impl Print, figures: &Figures) -> io::Result<()> {
     for (place, need) in figures.needs.iter().enumerate() {
         let number = place + 1;
         if let Some(need) = need {
@@ -108,8 +108,8 @@ fn main(rt: HostRuntime) -> io::Result<()> {
     };
     match table.figures() {
         Ok(figures) => {
-            print_streams(rt, &table, &streams, &figures)?;
-            print_needs(rt, &figures)
+            print_streams(&rt, &table, &streams, &figures)?;
+            print_needs(&rt, &figures)
         }
         Err(fault) => println!(rt; "{fault}"),
     }

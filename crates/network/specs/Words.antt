@@ -1,6 +1,6 @@
 -- What `Display` writes of a call, and of what it tells.
 use Rattle.std.specs.Prelude.{ℕ, List, ◌++◌, codes, decimal}
-use Rattle.figures.specs.declared.delays.StreamFigures.{StreamFigures}
+use Rattle.figures.specs.Text.{figures_text}
 use Rattle.records.specs.Words.{line_text}
 use Rattle.network.specs.declared.calls.Call.{Call}
 use Rattle.network.specs.declared.calls.Call.TheVariants as call
@@ -14,10 +14,7 @@ call_text (call.SetPlaces l p) = codes "places of line " ++ decimal l ++ codes "
 call_text (call.OfStream n) = codes "stream " ++ decimal n
 call_text (call.OfLine l) = codes "line " ++ decimal l
 
-abbrev pub stream_text : StreamFigures → List ℕ
-stream_text figures = codes "q1 " ++ decimal figures.q1 ++ codes " q2 " ++ decimal figures.q2 ++ codes " total " ++ decimal figures.total
-
 abbrev pub told_text : Told → List ℕ
 told_text told.Done = codes "done"
-told_text (told.Stream figures) = stream_text figures
+told_text (told.Stream figures) = figures_text figures
 told_text (told.Line figures) = line_text figures

@@ -55,12 +55,7 @@ impl fmt::Display for Told {
     fn fmt<W: fmt::Write>(&self, f: &mut fmt::Formatter<W>) -> fmt::Result {
         match self {
             Told::Done => write!(f, "done"),
-            Told::Stream(figures) => {
-                let q1 = figures.q1;
-                let q2 = figures.q2;
-                let total = figures.total;
-                write!(f, "q1 {q1} q2 {q2} total {total}")
-            }
+            Told::Stream(figures) => write!(f, "{figures}"),
             Told::Line(figures) => write!(f, "{figures}"),
         }
     }

@@ -57,7 +57,7 @@ fn streams() -> [Stream<Kind>; 2] {
 }
 
 fn print_streams(
-    rt: HostRuntime,
+    rt: &impl Print,
     table: &Table<Kind>,
     streams: &[Stream<Kind>],
     figures: &Figures,
@@ -71,7 +71,7 @@ fn print_streams(
     Ok(())
 }
 
-fn print_lines(rt: HostRuntime, rack: &Rack, figures: &Figures) -> io::Result<()> {
+fn print_lines(rt: &impl Print, rack: &Rack, figures: &Figures) -> io::Result<()> {
     for (place, need) in figures.needs.iter().enumerate() {
         if let (Some(line), Some(need)) = (rack.lines[place], need) {
             let number = place + 1;
@@ -90,8 +90,8 @@ fn main(rt: HostRuntime) -> io::Result<()> {
     };
     match table.figures() {
         Ok(figures) => {
-            print_streams(rt, &table, &streams, &figures)?;
-            print_lines(rt, &rack, &figures)
+            print_streams(&rt, &table, &streams, &figures)?;
+            print_lines(&rt, &rack, &figures)
         }
         Err(fault) => println!(rt; "{fault}"),
     }
