@@ -8,54 +8,51 @@ use crate::limits::LAST_LINE;
 use arrivals::Arrival;
 use figures::{Delays, Rack, Stream, Table};
 
-// Whether each stream's total is at most its deadline, or the first whose is not.
-fn check_deadlines<K: Arrival>(
-    table: &Table<K>,
-    delays: &Delays,
-    streams: &[Stream<K>],
-) -> Result<(), TableFault>
-    requires { table.now.streams.now ≡ streams.now }
-    ensures { DeadlinesTold table.now.rack.now streams.now delays.now result }
-{
-    for (place, stream) in streams.iter().enumerate() {
-        if let Some(figures) = table.of_stream(delays, place) {
-            if figures.total > stream.deadline {
-                return Err(TableFault::Late(stream.number));
-            }
-        }
-    }
-    Ok(())
+// A table with the delays of its streams.
+#[derive(Drop)]
+struct Timed<'a, K> {
+    table: Table<'a, K>,
+    delays: Delays,
 }
 
-// Whether the line's port has a need, and places enough for it.
-fn check_line<K: Arrival>(
-    table: &Table<K>,
-    delays: &Delays,
-    rack: &Rack,
-    number: u8,
-) -> Result<(), TableFault>
-    requires { table.now.rack.now ≡ rack.now }
-    ensures { LineTold K.Arrival.alpha rack.now table.now.streams.now delays.now number result }
-{
-    if let Some(line) = rack.line(number) {
-        if let Some(need) = table.need(delays, number)? {
-            if need > line.places {
-                return Err(TableFault::Cramped(number));
+impl<'a, K: Arrival> Timed<'a, K> {
+    // Whether each stream's total is at most its deadline, or the first whose is not.
+    fn check_deadlines(&self) -> Result<(), TableFault>
+        ensures { DeadlinesTold self.now.table.rack.now self.now.table.streams.now self.now.delays result }
+    {
+        for (place, stream) in self.table.streams().iter().enumerate() {
+            if let Some(figures) = self.table.of_stream(&self.delays, place) {
+                if figures.total > stream.deadline {
+                    return Err(TableFault::Late(stream.number));
+                }
             }
         }
+        Ok(())
     }
-    Ok(())
-}
 
-// The same for all lines, by rising number.
-fn check_lines<K: Arrival>(table: &Table<K>, delays: &Delays, rack: &Rack) -> Result<(), TableFault>
-    requires { table.now.rack.now ≡ rack.now }
-    ensures { LinesTold K.Arrival.alpha rack.now table.now.streams.now delays.now result }
-{
-    for number in 1..=LAST_LINE {
-        check_line(table, delays, rack, number)?;
+    // Whether the line's port has a need, and places enough for it.
+    fn check_line(&self, number: u8) -> Result<(), TableFault>
+        ensures { LineTold K.Arrival.alpha self.now.table.rack.now self.now.table.streams.now self.now.delays number result }
+    {
+        if let Some(line) = self.table.line(number) {
+            if let Some(need) = self.table.need(&self.delays, number)? {
+                if need > line.places {
+                    return Err(TableFault::Cramped(number));
+                }
+            }
+        }
+        Ok(())
     }
-    Ok(())
+
+    // The same for all lines, by rising number.
+    fn check_lines(&self) -> Result<(), TableFault>
+        ensures { LinesTold K.Arrival.alpha self.now.table.rack.now self.now.table.streams.now self.now.delays result }
+    {
+        for number in 1..=LAST_LINE {
+            self.check_line(number)?;
+        }
+        Ok(())
+    }
 }
 
 // Whether the table passes every check, or the first that it fails: all q1 and all q2 in table order, the
@@ -70,6 +67,7 @@ pub fn check<'a, K: Arrival>(rack: &'a Rack, streams: &'a [Stream<K>]) -> Result
         unreachable!()
     };
     let delays = table.delays()?;
-    check_deadlines(&table, &delays, streams)?;
-    check_lines(&table, &delays, rack)
+    let timed = Timed { table, delays };
+    timed.check_deadlines()?;
+    timed.check_lines()
 }

@@ -2,7 +2,7 @@
 ghost use Rattle.std.specs.Prelude.{◌≡◌, ℕ, ◌+◌, ◌<◌, ◌≤◌, true, false, length, replicate, Some, None, MatchOption, slice_index, slice_index_or};
 ghost use Rattle.ports.specs.Limits.{horizon};
 ghost use Rattle.figures.specs.Limits.{most_streams};
-ghost use Rattle.figures.specs.Racks.{rack_kept, spread};
+ghost use Rattle.figures.specs.Racks.{line_at, spread};
 ghost use Rattle.figures.specs.Tables.{falls_under, placed, all_placed, table_kept, ProbeNeed};
 ghost use Rattle.figures.specs.Told.{DelaysTold, StreamTold, HubNeedFor, NeedToldFor, NeedsToldFor, FiguresTold};
 
@@ -11,7 +11,7 @@ use crate::faults::FigureFault;
 use crate::groups::Group;
 use crate::hops::Hop;
 use crate::loads::{GroupLoad, HubLoad};
-use crate::racks::{Rack, Side};
+use crate::racks::{Line, Rack, Side};
 use crate::streams::Stream;
 use crate::traffic::{MOST_STREAMS, Traffic};
 use arrivals::Arrival;
@@ -51,6 +51,22 @@ fn are_placed<K>(rack: &Rack, streams: &[Stream<K>]) -> bool
     ensures { result ≡ all_placed rack.now streams.now }
 {
     streams.iter().all(|stream| is_placed(rack, stream))
+}
+
+impl<'a, K> Table<'a, K> {
+    // The streams, in falling order of priority.
+    pub fn streams(&self) -> &'a [Stream<K>]
+        ensures { result.now ≡ self.now.streams.now }
+    {
+        self.streams
+    }
+
+    // The record of the line `number`, if there is one.
+    pub fn line(&self, number: u8) -> Option<Line>
+        ensures { result ≡ line_at self.now.rack.now number }
+    {
+        self.rack.line(number)
+    }
 }
 
 impl<'a, K: Arrival> Table<'a, K> {
@@ -151,7 +167,7 @@ impl<'a, K: Arrival> Table<'a, K> {
     pub fn need(&self, delays: &Delays, number: u8) -> Result<Option<u32>, FigureFault>
         ensures { NeedToldFor K.Arrival.alpha self.now.rack.now self.now.streams.now delays.now.q1 number result }
     {
-        let Some(line) = self.rack.line(number) else {
+        let Some(line) = self.line(number) else {
             return Ok(None);
         };
         let need = match line.side {

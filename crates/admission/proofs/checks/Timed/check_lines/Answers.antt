@@ -2,7 +2,7 @@ use Rattle.std.proofs.Common.{◌≡◌, Ok, subst, inl, inr, arith}
 use Rattle.std.proofs.lemmas.Result.{err_from_is_err_and}
 use Rattle.std.proofs.lemmas.Bool.{cases_lt}
 use Rattle.admission.specs.Checks.{LineTold}
-use Rattle.admission.proofs.checks.check_lines.Goals as goal
+use Rattle.admission.proofs.checks.Timed.check_lines.Goals as goal
 
 pub returns-in_err-check_line : goal.returns-in_err-check_line
 returns-in_err-check_line g c =
@@ -23,7 +23,7 @@ loop-number-preserved g c m low less =
       | inl before ↦ c.loop-number.invariant m low before
       | inr after ↦
           let here : n ≡ m = omega arith in
-          subst (λ k. LineTold g.K.Arrival.alpha c.args.rack.now c.args.table.now.streams.now c.args.delays.now k (Ok tt)) here c.in_ok-check_line.ensures
+          subst (λ k. LineTold g.K.Arrival.alpha c.args.self.now.table.rack.now c.args.self.now.table.streams.now c.args.self.now.delays k (Ok tt)) here c.in_ok-check_line.ensures
     ]
 
 pub returns : goal.returns
