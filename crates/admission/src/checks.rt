@@ -1,4 +1,4 @@
-// The checks of a table: delays, deadlines, needs and places.
+//! The checks of a table: delays, deadlines, needs and places.
 ghost use Rattle.std.specs.Prelude.{◌≡◌, ℕ, ◌≤◌, true, length};
 ghost use Rattle.figures.specs.Tables.{table_kept, Distinct};
 ghost use Rattle.admission.specs.Checks.{DeadlinesTold, LineTold, LinesTold, CheckTold};
@@ -8,7 +8,7 @@ use crate::limits::LAST_LINE;
 use arrivals::Arrival;
 use figures::{Delays, Rack, Stream, Table};
 
-// A table with the delays of its streams.
+/// A table with the delays of its streams.
 #[derive(Drop)]
 struct Timed<'a, K> {
     table: Table<'a, K>,
@@ -16,7 +16,7 @@ struct Timed<'a, K> {
 }
 
 impl<'a, K: Arrival> Timed<'a, K> {
-    // Whether each stream's total is at most its deadline, or the first whose is not.
+    /// Whether each stream's total is at most its deadline, or the first whose is not.
     fn check_deadlines(&self) -> Result<(), TableFault>
         ensures { DeadlinesTold self.now.table.rack.now self.now.table.streams.now self.now.delays result }
     {
@@ -30,7 +30,7 @@ impl<'a, K: Arrival> Timed<'a, K> {
         Ok(())
     }
 
-    // Whether the line's port has a need, and places enough for it.
+    /// Whether the line's port has a need, and places enough for it.
     fn check_line(&self, number: u8) -> Result<(), TableFault>
         ensures { LineTold K.Arrival.alpha self.now.table.rack.now self.now.table.streams.now self.now.delays number result }
     {
@@ -44,7 +44,7 @@ impl<'a, K: Arrival> Timed<'a, K> {
         Ok(())
     }
 
-    // The same for all lines, by rising number.
+    /// The same for all lines, by rising number.
     fn check_lines(&self) -> Result<(), TableFault>
         ensures { LinesTold K.Arrival.alpha self.now.table.rack.now self.now.table.streams.now self.now.delays result }
     {
@@ -55,8 +55,8 @@ impl<'a, K: Arrival> Timed<'a, K> {
     }
 }
 
-// Whether the table passes every check, or the first that it fails: all q1 and all q2 in table order, the
-// deadlines in table order, then the need and the places of each line.
+/// Whether the table passes every check, or the first that it fails: all q1 and all q2 in table order, the
+/// deadlines in table order, then the need and the places of each line.
 pub fn check<'a, K: Arrival>(rack: &'a Rack, streams: &'a [Stream<K>]) -> Result<(), TableFault>
     requires kept { table_kept rack.now streams.now ≡ true }
     requires distinct { Distinct streams.now }

@@ -1,4 +1,4 @@
-// Why a call on a draft or a network is refused.
+//! Why a call on a draft or a network is refused.
 ghost use Rattle.std.specs.Prelude.{◌≡◌, Some};
 ghost use Rattle.admission.specs.Faults.{refusal, party, layer, of_kind};
 ghost use Rattle.admission.specs.declared.faults.TableFault.TheVariants.{Figure};
@@ -9,7 +9,7 @@ use figures::FigureFault;
 use std::error::Error;
 use std::fmt;
 
-// The layer that a fault comes from.
+/// The layer that a fault comes from.
 #[derive(Clone, Copy, PartialEq, Eq, Debug)]
 pub enum Layer {
     Figure,
@@ -19,32 +19,32 @@ pub enum Layer {
 
 #[derive(Clone, Copy, PartialEq, Eq, Debug)]
 pub enum TableFault {
-    // A field is outside its limits.
+    /// A field is outside its limits.
     OutsideLimits,
-    // The cells of a message, a gap apart, do not fit into its period.
+    /// The cells of a message, a gap apart, do not fit into its period.
     Overfull,
-    // The line's number is taken.
+    /// The line's number is taken.
     LineTaken(u8),
-    // The line is missing or on the wrong side.
+    /// The line is missing or on the wrong side.
     NoLine(u8),
-    // The stream's number is taken.
+    /// The stream's number is taken.
     StreamTaken(u16),
-    // The priority is taken, by this stream.
+    /// The priority is taken, by this stream.
     PriorityTaken(u16),
-    // The table has no place for this newcomer.
+    /// The table has no place for this newcomer.
     TableFull(u16),
-    // There is no stream with this number.
+    /// There is no stream with this number.
     NoStream(u16),
-    // A stream has no delay, or a line no need.
+    /// A stream has no delay, or a line no need.
     Figure(FigureFault),
-    // The stream's total is above its deadline.
+    /// The stream's total is above its deadline.
     Late(u16),
-    // The line's need is above its places.
+    /// The line's need is above its places.
     Cramped(u8),
 }
 
 impl TableFault {
-    // The number by which the refusal is known.
+    /// The number by which the refusal is known.
     pub fn number(&self) -> u8
         ensures { result ≡ refusal self.now }
     {
@@ -63,7 +63,7 @@ impl TableFault {
         }
     }
 
-    // The stream or line that it names, or 0.
+    /// The stream or line that it names, or 0.
     pub fn party(&self) -> u16
         ensures { result ≡ party self.now }
     {

@@ -1,4 +1,4 @@
-// The checks that a table of streams has to pass, and the faults of the table's layer.
+//! The checks that a table of streams has to pass, and the faults of the table's layer.
 #![tactic(auto)]
 
 mod checks;

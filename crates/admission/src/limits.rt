@@ -1,4 +1,4 @@
-// The limits of the fields of lines, streams and calls. Each is at least 1.
+//! The limits of the fields of lines, streams and calls. Each is at least 1.
 ghost use Rattle.std.specs.Prelude.{◌≡◌};
 ghost use Rattle.admission.specs.Fields.{fields_within};
 
@@ -12,7 +12,7 @@ pub const LATEST_DEADLINE: u32 = 500_000;
 
 pub const MOST_PLACES: u32 = 4_000;
 
-// Whether each field of the stream keeps its limits; its kind keeps its own.
+/// Whether each field of the stream keeps its limits; its kind keeps its own.
 pub fn has_fields_within<K>(stream: &Stream<K>) -> bool
     ensures { result ≡ fields_within stream.now }
 {

@@ -1,15 +1,15 @@
-// The trait of an arrival kind.
+//! The trait of an arrival kind.
 ghost use Rattle.std.specs.Prelude.{◌≡◌, ℕ, ◌≤◌, min};
 ghost use Rattle.arrivals.specs.Limits.{longest, most};
 
-// The longest window, in ticks, that a kind tells its own bound for.
+/// The longest window, in ticks, that a kind tells its own bound for.
 pub const LONGEST_WINDOW: u32 = 1_000_000;
 
 pub trait Arrival {
-    // The arrival bound: the most cells that may be queued in any `w` successive ticks.
+    /// The arrival bound: the most cells that may be queued in any `w` successive ticks.
     ghost alpha: { Self → ℕ → ℕ };
 
-    // The bound at `window`, or at the longest window where that is shorter.
+    /// The bound at `window`, or at the longest window where that is shorter.
     fn count(&self, window: u32) -> u32
         ensures { result ≡ alpha self.now (min window longest) };
 

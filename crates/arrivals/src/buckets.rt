@@ -1,4 +1,4 @@
-// A leaky bucket: a burst at once, and one cell more after each interval.
+//! A leaky bucket: a burst at once, and one cell more after each interval.
 ghost use Rattle.std.specs.Prelude.{◌≡◌, ℕ, ◌≤◌, min};
 ghost use Rattle.arrivals.specs.Limits.{longest, most};
 ghost use Rattle.arrivals.specs.Buckets.{Kept, made, meaning, bucket_alpha};
@@ -8,7 +8,7 @@ ghost use Rattle.std.proofs.Common.{rules};
 use crate::arrivals::{Arrival, LONGEST_WINDOW};
 use crate::faults::KindFault;
 
-// Plain numbers: any that break the limits mean the bucket of one cell in each tick.
+/// Plain numbers: any that break the limits mean the bucket of one cell in each tick.
 #[derive(Clone, Copy, PartialEq, Eq, Debug)]
 pub struct Bucket {
     pub burst: u32,
@@ -32,7 +32,7 @@ impl Bucket {
         }
     }
 
-    // The bucket that these numbers mean: themselves where they keep the limits.
+    /// The bucket that these numbers mean: themselves where they keep the limits.
     fn meant(&self) -> Bucket
         ensures value { result ≡ meaning self.now }
         ensures kept { Kept result }

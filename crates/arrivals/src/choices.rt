@@ -1,4 +1,4 @@
-// One of two kinds, so that one table carries both.
+//! One of two kinds, so that one table carries both.
 ghost use Rattle.std.specs.Prelude.{ℕ, ◌≤◌, min};
 ghost use Rattle.arrivals.specs.Limits.{longest, most};
 ghost use Rattle.arrivals.specs.Choices.{chosen};

@@ -1,4 +1,4 @@
-// A kind as it is seen further on, where its cells come late by different times.
+//! A kind as it is seen further on, where its cells come late by different times.
 ghost use Rattle.std.specs.Prelude.{◌≡◌, ℕ, ◌+◌, ◌≤◌, min};
 ghost use Rattle.arrivals.specs.Limits.{longest, most};
 ghost use Rattle.arrivals.specs.Delays.{delayed};
@@ -7,14 +7,14 @@ ghost use Rattle.arrivals.specs.Quotients.{windowed_rises};
 
 use crate::arrivals::Arrival;
 
-// What arrives by `kind`, each cell late by at most `by` ticks.
+/// What arrives by `kind`, each cell late by at most `by` ticks.
 #[derive(Clone, Copy, PartialEq, Eq, Debug)]
 pub struct Delayed<K> {
     pub kind: K,
     pub by: u32,
 }
 
-// The bound at `window` of a kind that is late by at most `by` ticks.
+/// The bound at `window` of a kind that is late by at most `by` ticks.
 pub fn delayed_count<K: Arrival>(kind: &K, by: u32, window: u32) -> u32
     ensures { result ≡ delayed (K.Arrival.alpha kind.now) by (min window longest) }
 {

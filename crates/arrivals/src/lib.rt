@@ -1,4 +1,4 @@
-// Arrival kinds: how many cells of a stream may be queued at its probe port in any window of ticks.
+//! Arrival kinds: how many cells of a stream may be queued at its probe port in any window of ticks.
 #![tactic(auto)]
 
 mod arrivals;

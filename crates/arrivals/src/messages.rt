@@ -1,4 +1,4 @@
-// A message: so many cells, a gap apart, again in each period, each period's late by at most the jitter.
+//! A message: so many cells, a gap apart, again in each period, each period's late by at most the jitter.
 ghost use Rattle.std.specs.Prelude.{◌≡◌, ℕ, ◌≤◌, min};
 ghost use Rattle.arrivals.specs.Limits.{longest, most};
 ghost use Rattle.arrivals.specs.Messages.{Kept, made, meaning, message_alpha};
@@ -8,7 +8,7 @@ ghost use Rattle.std.proofs.Common.{rules};
 use crate::arrivals::{Arrival, LONGEST_WINDOW};
 use crate::faults::KindFault;
 
-// Plain numbers: any that break the limits mean the message of one cell in each tick.
+/// Plain numbers: any that break the limits mean the message of one cell in each tick.
 #[derive(Clone, Copy, PartialEq, Eq, Debug)]
 pub struct Message {
     pub period: u32,
@@ -47,7 +47,7 @@ impl Message {
         })
     }
 
-    // The message that these numbers mean: themselves where they keep the limits.
+    /// The message that these numbers mean: themselves where they keep the limits.
     fn meant(&self) -> Message
         ensures value { result ≡ meaning self.now }
         ensures kept { Kept result }

@@ -1,16 +1,16 @@
-// Tests of the arrival kinds, by tables of hand-made cases.
+//! Tests of the arrival kinds, by tables of hand-made cases.
 #![tactic(auto)]
 
 #[cfg(test)]
 mod tests {
     use arrivals::{Arrival, Bucket, Choice, Delayed, KindFault, Message};
 
-    // The number of the refusal; None where the kind is accepted.
+    /// The number of the refusal; None where the kind is accepted.
     fn refusal<K: Drop>(made: Result<K, KindFault>) -> Option<u8> {
         made.err().map(|fault| fault.number())
     }
 
-    // Period, jitter, cells, gap, and the refusal: each limit at its edge and one past it.
+    /// Period, jitter, cells, gap, and the refusal: each limit at its edge and one past it.
     #[test]
     fn messages_at_their_limits(rt: HostRuntime) {
         let cases = [
@@ -42,7 +42,7 @@ mod tests {
         }
     }
 
-    // Burst, interval, and the refusal.
+    /// Burst, interval, and the refusal.
     #[test]
     fn buckets_at_their_limits(rt: HostRuntime) {
         let cases = [
@@ -59,7 +59,7 @@ mod tests {
         }
     }
 
-    // A window, and the counts of a message, a bucket, and the bucket delayed by 15.
+    /// A window, and the counts of a message, a bucket, and the bucket delayed by 15.
     #[test]
     fn counts_by_hand(rt: HostRuntime) {
         let message = Message {
@@ -93,7 +93,7 @@ mod tests {
         }
     }
 
-    // Numbers that break their limits mean one cell in each tick.
+    /// Numbers that break their limits mean one cell in each tick.
     #[test]
     fn broken_numbers_have_a_meaning(rt: HostRuntime) {
         let message = Message {

@@ -1,4 +1,4 @@
-// Carries out calls on a network of two lines, and prints each answer and the figures after it.
+//! Carries out calls on a network of two lines, and prints each answer and the figures after it.
 #![tactic(auto)]
 
 use admission::TableFault;
@@ -62,7 +62,7 @@ fn print_answer(rt: &impl Print, answer: &Answer) -> io::Result<()> {
     }
 }
 
-// The figures of the streams that are in, and of both lines.
+/// The figures of the streams that are in, and of both lines.
 fn print_figures(rt: &impl Print, network: &Network<Kind>) -> io::Result<()> {
     for number in 10..=11u16 {
         if let Ok(told) = network.stream_figures(number) {
@@ -78,7 +78,7 @@ fn print_figures(rt: &impl Print, network: &Network<Kind>) -> io::Result<()> {
     Ok(())
 }
 
-// One call after the other, each with its answer and the figures after it.
+/// One call after the other, each with its answer and the figures after it.
 fn one_by_one(rt: &impl Print, draft: Draft) -> io::Result<()> {
     let calls = [
         Call::Request(stream_10(18)),
@@ -105,7 +105,7 @@ fn one_by_one(rt: &impl Print, draft: Draft) -> io::Result<()> {
     Ok(())
 }
 
-// A list of calls at once, then the answers and the figures of the network that is left.
+/// A list of calls at once, then the answers and the figures of the network that is left.
 fn at_once(rt: &impl Print, draft: Draft) -> io::Result<()> {
     let calls = [
         Call::Request(stream_11(30)),

@@ -1,4 +1,4 @@
-// Whether the planner answers a case as expected.
+//! Whether the planner answers a case as expected.
 ghost use Rattle.std.specs.Prelude.{◌≡◌, ◌≤◌, [], length, vec_len, None, IsOk, IsSomeAnd, MatchResult};
 ghost use Rattle.wire.specs.declared.faults.FileFault.TheVariants.{NoRoom};
 ghost use Rattle.cases.specs.Shown.{Shown};
@@ -9,22 +9,22 @@ use std::alloc::{AllocError, Global};
 use std::fmt;
 use wire::FileFault;
 
-// What the buffer holds before the call. No listing has such a byte.
+/// What the buffer holds before the call. No listing has such a byte.
 const UNTOUCHED: u8 = 0xa5;
 
-// As much memory as can be lent: for more streams than a table may have.
+/// As much memory as can be lent: for more streams than a table may have.
 const MOST_MEMORY: usize = 80;
 
-// How an answer differs from the expected one.
+/// How an answer differs from the expected one.
 #[derive(Clone, Copy)]
 pub enum Difference {
-    // Another length is told than expected.
+    /// Another length is told than expected.
     Length(usize),
-    // The buffer differs at this place: from the text or, behind it, from what it held before.
+    /// The buffer differs at this place: from the text or, behind it, from what it held before.
     Byte(usize),
-    // A listing of this length came in place of the refusal.
+    /// A listing of this length came in place of the refusal.
     NotRefused(usize),
-    // This refusal came in place of the listing, or of another one.
+    /// This refusal came in place of the listing, or of another one.
     Refused(u8),
 }
 
@@ -39,7 +39,7 @@ impl fmt::Display for Difference {
     }
 }
 
-// Compares the buffer with the text and untouched bytes behind it.
+/// Compares the buffer with the text and untouched bytes behind it.
 fn compare(out: &[u8], text: &[u8]) -> Result<(), Difference>
     ensures { IsOk result → Shown out.now text.now }
 {
@@ -52,7 +52,7 @@ fn compare(out: &[u8], text: &[u8]) -> Result<(), Difference>
     Ok(())
 }
 
-// Weighs what the call told and left in the buffer.
+/// Weighs what the call told and left in the buffer.
 fn weigh(
     told: Result<usize, FileFault>,
     out: &[u8],

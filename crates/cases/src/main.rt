@@ -1,4 +1,4 @@
-// Lists many small plan files, and says how many of the answers agree with the expected ones.
+//! Lists many small plan files, and says how many of the answers agree with the expected ones.
 #![tactic(auto)]
 
 mod judging;
@@ -9,7 +9,7 @@ use judging::judge;
 use reading::Case;
 use std::{fmt, fs};
 
-// The files of cases, each with the cases of one group.
+/// The files of cases, each with the cases of one group.
 const GROUPS: [&str; 13] = [
     "worked.txt",
     "opening.txt",
@@ -54,7 +54,7 @@ impl fmt::Display for Tally {
     }
 }
 
-// Judges the cases of a text, and names those that do not agree.
+/// Judges the cases of a text, and names those that do not agree.
 fn run_text(rt: &HostRuntime, text: &str) -> anyhow::Result<Tally> {
     let mut tally = Tally::default();
     let mut case = Case::new(rt.alloc());

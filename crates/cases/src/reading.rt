@@ -1,14 +1,14 @@
-// Cases as text: a plan file in hexadecimal digits, what it is listed with, and the listing that is expected.
-//
-//     case NAME            begins a case
-//     file 00 05 01 ..     the next bytes of its plan file; one line for each record
-//     memory N             the streams that the lent memory has room for, 64 where no line says so
-//     room N               the length of the buffer, 151110 where no line says so
-//     text LINE            the next line of the expected listing
-//     refused              no listing, since it is longer than the buffer
-//     end                  ends the case
-//
-// A line that begins with '#', and one with nothing on it, is for the reader alone.
+//! Cases as text: a plan file in hexadecimal digits, what it is listed with, and the listing that is expected.
+//!
+//!     case NAME            begins a case
+//!     file 00 05 01 ..     the next bytes of its plan file; one line for each record
+//!     memory N             the streams that the lent memory has room for, 64 where no line says so
+//!     room N               the length of the buffer, 151110 where no line says so
+//!     text LINE            the next line of the expected listing
+//!     refused              no listing, since it is longer than the buffer
+//!     end                  ends the case
+//!
+//! A line that begins with '#', and one with nothing on it, is for the reader alone.
 use anyhow::anyhow;
 use figures::MOST_STREAMS;
 use planfile::LONGEST_LISTING;
@@ -20,11 +20,11 @@ pub struct Case {
     pub file: Vec<u8>,
     pub memory: usize,
     pub room: usize,
-    // None where a refusal is expected.
+    /// None where a refusal is expected.
     pub listing: Option<Vec<u8>>,
 }
 
-// What a line says.
+/// What a line says.
 enum Line<'a> {
     Case(&'a str),
     File(&'a str),
@@ -81,7 +81,7 @@ impl Case {
         Ok(())
     }
 
-    // Takes the next line, and tells whether the case is whole.
+    /// Takes the next line, and tells whether the case is whole.
     pub fn take(&mut self, line: &str) -> anyhow::Result<bool> {
         match read_line(line)? {
             Line::Case(name) => self.begin(name)?,

@@ -1,4 +1,4 @@
-// Prints how many cells a message and a bucket may queue in short windows, and how a message is refused.
+//! Prints how many cells a message and a bucket may queue in short windows, and how a message is refused.
 #![tactic(auto)]
 
 use arrivals::{Arrival, Bucket, KindFault, Message};

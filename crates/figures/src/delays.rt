@@ -1,10 +1,10 @@
-// The delays of a table's streams at their two ports.
+//! The delays of a table's streams at their two ports.
 ghost use Rattle.std.specs.Prelude.{ℕ, ◌≤◌, slice_index};
 ghost use Rattle.ports.specs.Limits.{horizon};
 
 use crate::traffic::MOST_STREAMS;
 
-// q1 and q2 of the stream at each place of the table.
+/// q1 and q2 of the stream at each place of the table.
 #[derive(Clone, Copy)]
 pub struct Delays {
     pub q1: [u32; MOST_STREAMS],
@@ -13,7 +13,7 @@ pub struct Delays {
     ghost near_too: { (i : ℕ) → slice_index q2 i ≤ horizon },
 }
 
-// The figures of one stream.
+/// The figures of one stream.
 #[derive(Clone, Copy, PartialEq, Eq, Debug)]
 pub struct StreamFigures {
     pub q1: u32,
@@ -21,7 +21,7 @@ pub struct StreamFigures {
     pub total: u32,
 }
 
-// All figures of a table; the need of the line n stands at the place n - 1.
+/// All figures of a table; the need of the line n stands at the place n - 1.
 #[derive(Clone, Copy)]
 pub struct Figures {
     pub delays: Delays,

@@ -1,4 +1,4 @@
-// What is printed of a stream's figures, and of the refusal of a table.
+//! What is printed of a stream's figures, and of the refusal of a table.
 ghost use Rattle.std.specs.Prelude.{Some};
 ghost use Rattle.figures.specs.Text.{figures_text, fault_text};
 

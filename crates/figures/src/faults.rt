@@ -1,17 +1,17 @@
-// Why a table has no figures.
+//! Why a table has no figures.
 ghost use Rattle.std.specs.Prelude.{◌≡◌};
 ghost use Rattle.figures.specs.Faults.{refusal, party};
 
 #[derive(Clone, Copy, PartialEq, Eq, Debug)]
 pub enum FigureFault {
-    // The stream with this number has no delay at one of its ports.
+    /// The stream with this number has no delay at one of its ports.
     NoDelay(u16),
-    // The port of the line with this number is never clear.
+    /// The port of the line with this number is never clear.
     NoNeed(u8),
 }
 
 impl FigureFault {
-    // The number by which the refusal is known.
+    /// The number by which the refusal is known.
     pub fn number(&self) -> u8
         ensures { result ≡ refusal self.now }
     {
@@ -21,7 +21,7 @@ impl FigureFault {
         }
     }
 
-    // The stream or line that it names.
+    /// The stream or line that it names.
     pub fn party(&self) -> u16
         ensures { result ≡ party self.now }
     {

@@ -1,10 +1,10 @@
-// Groups of a table's streams.
+//! Groups of a table's streams.
 ghost use Rattle.std.specs.Prelude.{◌≡◌};
 ghost use Rattle.figures.specs.Sums.{in_group};
 
 use crate::streams::Stream;
 
-// Some streams of a table: by in-bound line, by a line and higher priority, or by both lines.
+/// Some streams of a table: by in-bound line, by a line and higher priority, or by both lines.
 #[derive(Clone, Copy)]
 pub enum Group {
     From(u8),

@@ -1,4 +1,4 @@
-// The delays of a table's streams at their ports of one hop.
+//! The delays of a table's streams at their ports of one hop.
 ghost use Rattle.std.specs.Prelude.{◌≡◌, ℕ, ◌<◌, ◌≤◌, length};
 ghost use Rattle.figures.specs.Told.{StreamToldFor, HopToldFor, Near, AllNear};
 
@@ -9,7 +9,7 @@ use crate::traffic::{MOST_STREAMS, Traffic};
 use arrivals::Arrival;
 
 impl<'a, K: Arrival> Traffic<'a, K> {
-    // The delay of the stream at `place` of the table, at its port of this hop.
+    /// The delay of the stream at `place` of the table, at its port of this hop.
     fn delay(&self, hop: Hop, place: usize) -> Option<u32>
         requires { place < length self.now.streams.now }
         ensures told { StreamToldFor K.Arrival.alpha self.now.rack.now self.now.streams.now hop self.now.late place result }
@@ -27,7 +27,7 @@ impl<'a, K: Arrival> Traffic<'a, K> {
         self.port(hop.line(stream), higher).delay(&own)
     }
 
-    // The delays of all streams at their ports of this hop, in table order.
+    /// The delays of all streams at their ports of this hop, in table order.
     pub fn delays(&self, hop: Hop) -> Result<[u32; MOST_STREAMS], FigureFault>
         ensures told { HopToldFor K.Arrival.alpha self.now.rack.now self.now.streams.now hop self.now.late result }
         ensures near { AllNear result }

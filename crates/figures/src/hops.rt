@@ -1,4 +1,4 @@
-// The two hops of a cell: from the probe port to the hub, and from the hub port to the host.
+//! The two hops of a cell: from the probe port to the hub, and from the hub port to the host.
 ghost use Rattle.std.specs.Prelude.{◌≡◌};
 ghost use Rattle.figures.specs.Hops.{line_used, above};
 
@@ -12,7 +12,7 @@ pub enum Hop {
 }
 
 impl Hop {
-    // The line that a stream takes on this hop.
+    /// The line that a stream takes on this hop.
     pub fn line<K>(&self, stream: &Stream<K>) -> u8
         ensures { result ≡ line_used self.now stream.now }
     {
@@ -22,7 +22,7 @@ impl Hop {
         }
     }
 
-    // The streams that go before a stream at its port.
+    /// The streams that go before a stream at its port.
     pub fn above<K>(&self, stream: &Stream<K>) -> Group
         ensures { result ≡ above self.now stream.now }
     {

@@ -1,4 +1,4 @@
-// Delays over two hops, and the places that each port needs, for any arrival kind.
+//! Delays over two hops, and the places that each port needs, for any arrival kind.
 #![tactic(auto)]
 
 mod delays;

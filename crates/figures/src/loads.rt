@@ -1,4 +1,4 @@
-// What comes to the ports of a table in a window of ticks.
+//! What comes to the ports of a table in a window of ticks.
 ghost use Rattle.std.specs.Prelude.{◌≡◌, ◌≤◌};
 ghost use Rattle.figures.specs.Sums.{seen, group_load, hub_sum};
 ghost use Rattle.figures.specs.GroupSums.{lawful, seen_rises, group_rises};
@@ -10,7 +10,7 @@ use crate::traffic::{Traffic, seen_count};
 use arrivals::Arrival;
 use ports::Load;
 
-// What one kind brings.
+/// What one kind brings.
 #[derive(Drop)]
 pub struct Source<'a, K> {
     pub kind: &'a K,
@@ -27,7 +27,7 @@ impl<'a, K: Arrival> Load for Source<'a, K> {
     }
 }
 
-// What a group of streams brings.
+/// What a group of streams brings.
 #[derive(Drop)]
 pub struct GroupLoad<'a, 'b, K> {
     pub traffic: &'a Traffic<'b, K>,
@@ -44,7 +44,7 @@ impl<'a, 'b, K: Arrival> Load for GroupLoad<'a, 'b, K> {
     }
 }
 
-// What all in-bound lines bring to the hub port of an out-bound line.
+/// What all in-bound lines bring to the hub port of an out-bound line.
 #[derive(Drop)]
 pub struct HubLoad<'a, 'b, K> {
     pub traffic: &'a Traffic<'b, K>,

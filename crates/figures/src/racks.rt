@@ -1,10 +1,10 @@
-// The rack without its streams: the hub and its lines.
+//! The rack without its streams: the hub and its lines.
 ghost use Rattle.std.specs.Prelude.{◌≡◌, ℕ, ◌+◌, ◌≤◌, true, length, Some};
 ghost use Rattle.ports.specs.Limits.{longest_cell};
 ghost use Rattle.figures.specs.Limits.{longest_switch, longest_propagation};
 ghost use Rattle.figures.specs.Racks.{line_at, is_on, cell_time, sending, spread, hub_kept, line_kept, lines_kept, rack_kept};
 
-// The hub passes a cell on after `least` to `most` ticks.
+/// The hub passes a cell on after `least` to `most` ticks.
 #[derive(Clone, Copy, PartialEq, Eq, Debug)]
 pub struct Hub {
     pub least: u32,
@@ -13,14 +13,14 @@ pub struct Hub {
 
 #[derive(Clone, Copy, PartialEq, Eq, Debug)]
 pub enum Side {
-    // From a probe to the hub.
+    /// From a probe to the hub.
     Inbound,
-    // From the hub to a host.
+    /// From the hub to a host.
     Outbound,
 }
 
-// A line sends a cell in `cell_time` ticks, and it takes `propagation` ticks more to the line's end.
-// The port that it begins at has `places` for cells of streams.
+/// A line sends a cell in `cell_time` ticks, and it takes `propagation` ticks more to the line's end.
+/// The port that it begins at has `places` for cells of streams.
 #[derive(Clone, Copy, PartialEq, Eq, Debug)]
 pub struct Line {
     pub side: Side,
@@ -31,7 +31,7 @@ pub struct Line {
 
 pub const LINE_NUMBERS: [u8; 16] = [1, 2, 3, 4, 5, 6, 7, 8, 9, 10, 11, 12, 13, 14, 15, 16];
 
-// The line with the number n stands at the place n - 1.
+/// The line with the number n stands at the place n - 1.
 #[derive(Clone, Copy)]
 pub struct Rack {
     pub hub: Hub,
@@ -62,7 +62,7 @@ impl Line {
     }
 }
 
-// Whether each line that there is keeps its limits.
+/// Whether each line that there is keeps its limits.
 fn are_lines_kept(lines: &[Option<Line>]) -> bool
     ensures { result ≡ lines_kept lines.now }
 {
@@ -72,7 +72,7 @@ fn are_lines_kept(lines: &[Option<Line>]) -> bool
 }
 
 impl Rack {
-    // The record of the line `number`, if there is one.
+    /// The record of the line `number`, if there is one.
     pub fn line(&self, number: u8) -> Option<Line>
         ensures { result ≡ line_at self.now number }
     {
@@ -80,14 +80,14 @@ impl Rack {
         self.lines.get(place).copied().flatten()
     }
 
-    // Whether there is a line with the number on this side.
+    /// Whether there is a line with the number on this side.
     pub fn is_on(&self, number: u8, side: Side) -> bool
         ensures { result ≡ is_on side (line_at self.now number) }
     {
         self.line(number).is_some_and(|line| line.side == side)
     }
 
-    // The cell time of the line `number`; 1 stands in where there is none.
+    /// The cell time of the line `number`; 1 stands in where there is none.
     pub(crate) fn cell_time(&self, number: u8) -> u32
         requires { rack_kept self.now ≡ true }
         ensures value { result ≡ cell_time self.now number }
@@ -96,7 +96,7 @@ impl Rack {
         self.line(number).map_or(1, |line| line.cell_time)
     }
 
-    // The ticks from the start of a sending on the line `number` to the cell's arrival at its end.
+    /// The ticks from the start of a sending on the line `number` to the cell's arrival at its end.
     pub(crate) fn sending(&self, number: u8) -> u32
         requires { rack_kept self.now ≡ true }
         ensures value { result ≡ sending self.now number }
@@ -106,7 +106,7 @@ impl Rack {
         self.cell_time(number) + propagation
     }
 
-    // Whether the numbers that the figures rest on keep their limits.
+    /// Whether the numbers that the figures rest on keep their limits.
     pub(crate) fn is_kept(&self) -> bool
         ensures { result ≡ rack_kept self.now }
     {

@@ -1,7 +1,7 @@
-// The records of a table.
+//! The records of a table.
 
-// A stream takes the line `inbound` to the hub, and the line `outbound` to its host.
-// The larger priority is the more urgent.
+/// A stream takes the line `inbound` to the hub, and the line `outbound` to its host.
+/// The larger priority is the more urgent.
 #[derive(Clone, Copy, PartialEq, Eq, Debug)]
 pub struct Stream<K> {
     pub number: u16,

@@ -1,4 +1,4 @@
-// A table of streams in a rack, and its figures.
+//! A table of streams in a rack, and its figures.
 ghost use Rattle.std.specs.Prelude.{◌≡◌, ℕ, ◌+◌, ◌<◌, ◌≤◌, true, false, length, replicate, Some, None, MatchOption, slice_index, slice_index_or};
 ghost use Rattle.ports.specs.Limits.{horizon};
 ghost use Rattle.figures.specs.Limits.{most_streams};
@@ -16,7 +16,7 @@ use crate::streams::Stream;
 use crate::traffic::{MOST_STREAMS, Traffic};
 use arrivals::Arrival;
 
-// At most 64 streams in falling order of priority, on lines that are there, each on its side.
+/// At most 64 streams in falling order of priority, on lines that are there, each on its side.
 #[derive(Drop)]
 pub struct Table<'a, K> {
     rack: &'a Rack,
@@ -24,8 +24,8 @@ pub struct Table<'a, K> {
     ghost kept: { table_kept rack.now streams.now ≡ true },
 }
 
-// Whether the priorities fall from one stream to the next. A loop: with `is_sorted_by` the proof didn't close, since no
-// priority is read there, so that nothing says that the first is below 256.
+/// Whether the priorities fall from one stream to the next. A loop: with `is_sorted_by` the proof didn't close, since no
+/// priority is read there, so that nothing says that the first is below 256.
 fn priorities_fall<K>(streams: &[Stream<K>]) -> bool
     ensures { result ≡ falls_under 256 streams.now }
 {
@@ -40,7 +40,7 @@ fn priorities_fall<K>(streams: &[Stream<K>]) -> bool
     true
 }
 
-// Whether the stream's lines are there, each on its side.
+/// Whether the stream's lines are there, each on its side.
 fn is_placed<K>(rack: &Rack, stream: &Stream<K>) -> bool
     ensures { result ≡ placed rack.now stream.now }
 {
@@ -54,14 +54,14 @@ fn are_placed<K>(rack: &Rack, streams: &[Stream<K>]) -> bool
 }
 
 impl<'a, K> Table<'a, K> {
-    // The streams, in falling order of priority.
+    /// The streams, in falling order of priority.
     pub fn streams(&self) -> &'a [Stream<K>]
         ensures { result.now ≡ self.now.streams.now }
     {
         self.streams
     }
 
-    // The record of the line `number`, if there is one.
+    /// The record of the line `number`, if there is one.
     pub fn line(&self, number: u8) -> Option<Line>
         ensures { result ≡ line_at self.now.rack.now number }
     {
@@ -70,7 +70,7 @@ impl<'a, K> Table<'a, K> {
 }
 
 impl<'a, K: Arrival> Table<'a, K> {
-    // The table of these streams, where they make one.
+    /// The table of these streams, where they make one.
     pub fn new(rack: &'a Rack, streams: &'a [Stream<K>]) -> Option<Table<'a, K>>
         ensures { MatchOption result (table_kept rack.now streams.now ≡ false) (λ t. (t.rack.now ≡ rack.now) × (t.streams.now ≡ streams.now) × (table_kept rack.now streams.now ≡ true)) }
     {
@@ -85,7 +85,7 @@ impl<'a, K: Arrival> Table<'a, K> {
         }
     }
 
-    // The streams as they come to the probe ports.
+    /// The streams as they come to the probe ports.
     fn punctual(&self) -> Traffic<'a, K>
         ensures ours { (result.rack.now ≡ self.now.rack.now) × (result.streams.now ≡ self.now.streams.now) }
         ensures punctual { result.late ≡ replicate 64 None }
@@ -97,7 +97,7 @@ impl<'a, K: Arrival> Table<'a, K> {
         }
     }
 
-    // The streams as they come to the hub ports, where they had these delays at the probe ports.
+    /// The streams as they come to the hub ports, where they had these delays at the probe ports.
     fn late(&self, q1: &[u32; MOST_STREAMS]) -> Traffic<'a, K>
         requires { (i : ℕ) → slice_index q1.now i ≤ horizon }
         ensures ours { (result.rack.now ≡ self.now.rack.now) × (result.streams.now ≡ self.now.streams.now) }
@@ -111,7 +111,7 @@ impl<'a, K: Arrival> Table<'a, K> {
         }
     }
 
-    // q1 and q2 of all streams: all q1 in table order, then all q2.
+    /// q1 and q2 of all streams: all q1 in table order, then all q2.
     pub fn delays(&self) -> Result<Delays, FigureFault>
         ensures { DelaysTold K.Arrival.alpha self.now.rack.now self.now.streams.now result }
     {
@@ -122,7 +122,7 @@ impl<'a, K: Arrival> Table<'a, K> {
         Ok(Delays { q1, q2 })
     }
 
-    // The figures of the stream at `place`, by the delays of all streams; None beyond the table's end.
+    /// The figures of the stream at `place`, by the delays of all streams; None beyond the table's end.
     pub fn of_stream(&self, delays: &Delays, place: usize) -> Option<StreamFigures>
         ensures { MatchOption result (length self.now.streams.now ≤ place) (λ f. StreamTold self.now.rack.now self.now.streams.now delays.now place f) }
     {
@@ -163,7 +163,7 @@ impl<'a, K: Arrival> Table<'a, K> {
         traffic.port(number, load).need()
     }
 
-    // The need of the line `number`, by the delays of all streams; None where there is no such line.
+    /// The need of the line `number`, by the delays of all streams; None where there is no such line.
     pub fn need(&self, delays: &Delays, number: u8) -> Result<Option<u32>, FigureFault>
         ensures { NeedToldFor K.Arrival.alpha self.now.rack.now self.now.streams.now delays.now.q1 number result }
     {
@@ -177,7 +177,7 @@ impl<'a, K: Arrival> Table<'a, K> {
         need.map(Some).ok_or(FigureFault::NoNeed(number))
     }
 
-    // The needs of all lines, by rising number.
+    /// The needs of all lines, by rising number.
     pub fn needs(&self, delays: &Delays) -> Result<[Option<u32>; 16], FigureFault>
         ensures { NeedsToldFor K.Arrival.alpha self.now.rack.now self.now.streams.now delays.now.q1 result }
     {
@@ -188,7 +188,7 @@ impl<'a, K: Arrival> Table<'a, K> {
         Ok(needs)
     }
 
-    // All figures of the table, in one pass.
+    /// All figures of the table, in one pass.
     pub fn figures(&self) -> Result<Figures, FigureFault>
         ensures { FiguresTold K.Arrival.alpha self.now.rack.now self.now.streams.now result }
     {

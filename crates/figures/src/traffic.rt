@@ -1,4 +1,4 @@
-// What a table's streams queue at the ports of one hop.
+//! What a table's streams queue at the ports of one hop.
 ghost use Rattle.std.specs.Prelude.{◌≡◌, ℕ, ◌≤◌, min, true, length};
 ghost use Rattle.arrivals.specs.Limits.{longest, most};
 ghost use Rattle.figures.specs.Limits.{most_streams};
@@ -11,11 +11,11 @@ use crate::streams::Stream;
 use arrivals::{Arrival, LONGEST_WINDOW, delayed_count};
 use ports::Port;
 
-// The most streams of a table.
+/// The most streams of a table.
 pub const MOST_STREAMS: usize = 64;
 
-// The streams of a table in their rack. The cells of the stream at each place come late by what `late` has there;
-// by None where they come as its kind says.
+/// The streams of a table in their rack. The cells of the stream at each place come late by what `late` has there;
+/// by None where they come as its kind says.
 #[derive(Drop)]
 pub struct Traffic<'a, K> {
     pub rack: &'a Rack,
@@ -25,7 +25,7 @@ pub struct Traffic<'a, K> {
     ghost few: { length streams.now ≤ most_streams },
 }
 
-// What a kind queues in `window` ticks, where its cells come late.
+/// What a kind queues in `window` ticks, where its cells come late.
 pub fn seen_count<K: Arrival>(kind: &K, late: Option<u32>, window: u32) -> u32
     ensures value { result ≡ seen K.Arrival.alpha late kind.now (min window longest) }
     ensures small { result ≤ most }
@@ -37,7 +37,7 @@ pub fn seen_count<K: Arrival>(kind: &K, late: Option<u32>, window: u32) -> u32
 }
 
 impl<'a, K> Traffic<'a, K> {
-    // The port of the line `number`, to which `load` comes.
+    /// The port of the line `number`, to which `load` comes.
     pub fn port<L>(&self, number: u8, load: L) -> Port<L>
         ensures load { result.load ≡ load }
         ensures cell_time { result.cell_time ≡ cell_time self.now.rack.now number }
@@ -50,8 +50,8 @@ impl<'a, K> Traffic<'a, K> {
 }
 
 impl<'a, K: Arrival> Traffic<'a, K> {
-    // What the streams of `group` queue in `window` ticks. A loop: with chains here and in `of_lines`, which proved too,
-    // `full_table` took 54 ms, and with the loops 29.
+    /// What the streams of `group` queue in `window` ticks. A loop: with chains here and in `of_lines`, which proved too,
+    /// `full_table` took 54 ms, and with the loops 29.
     pub fn of_group(&self, group: &Group, window: u32) -> u32
         ensures { result ≡ group_load K.Arrival.alpha self.now.late self.now.streams.now group.now (min window longest) }
     {
@@ -64,8 +64,8 @@ impl<'a, K: Arrival> Traffic<'a, K> {
         sum
     }
 
-    // What the in-bound line `inbound` brings to the hub port of `outbound` in `window` ticks: no more than
-    // it can carry, and no more than its streams queue.
+    /// What the in-bound line `inbound` brings to the hub port of `outbound` in `window` ticks: no more than
+    /// it can carry, and no more than its streams queue.
     pub fn of_line(&self, inbound: u8, outbound: u8, window: u32) -> u32
         ensures value { result ≡ line_load K.Arrival.alpha self.now.late self.now.rack.now self.now.streams.now outbound (min window longest) (line_at self.now.rack.now inbound) inbound }
         ensures small { result ≤ 2000000 }
@@ -82,8 +82,8 @@ impl<'a, K: Arrival> Traffic<'a, K> {
         }
     }
 
-    // The same for several in-bound lines. A loop: a chain of map and sum proved too, but `full_table` took 41 ms with it,
-    // and with the loop 29.
+    /// The same for several in-bound lines. A loop: a chain of map and sum proved too, but `full_table` took 41 ms with it,
+    /// and with the loop 29.
     pub fn of_lines(&self, inbound: &[u8], outbound: u8, window: u32) -> u32
         requires { length inbound.now ≤ 16 }
         ensures { result ≡ lines_load K.Arrival.alpha self.now.late self.now.rack.now self.now.streams.now outbound (min window longest) inbound.now }

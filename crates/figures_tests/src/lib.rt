@@ -1,4 +1,4 @@
-// Tests of the figures, by tables of cases worked out by hand.
+//! Tests of the figures, by tables of cases worked out by hand.
 #![tactic(auto)]
 
 #[cfg(test)]
@@ -26,7 +26,7 @@ mod tests {
         }
     }
 
-    // A stream on line 1 to line 2 that brings one cell in each period.
+    /// A stream on line 1 to line 2 that brings one cell in each period.
     fn stream(number: u16, priority: u8, period: u32) -> Stream<Message> {
         let kind = Message {
             period,
@@ -44,7 +44,7 @@ mod tests {
         }
     }
 
-    // The need of line 1, or the refusal's number and whom it names; None where there is no table.
+    /// The need of line 1, or the refusal's number and whom it names; None where there is no table.
     fn answer<'a>(
         rack: &'a Rack,
         streams: &'a [Stream<Message>],
@@ -56,7 +56,7 @@ mod tests {
         })
     }
 
-    // With one cell in 2 ticks line 1 is never clear; with one in 3 it is, and holds one waiting behind a dump.
+    /// With one cell in 2 ticks line 1 is never clear; with one in 3 it is, and holds one waiting behind a dump.
     #[test]
     fn overload(rt: HostRuntime) {
         let rack = rack();
@@ -68,7 +68,7 @@ mod tests {
         );
     }
 
-    // What makes no table: priorities that do not fall, lines that are not there or on the wrong side.
+    /// What makes no table: priorities that do not fall, lines that are not there or on the wrong side.
     #[test]
     fn no_table(rt: HostRuntime) {
         let rack = rack();

@@ -1,5 +1,5 @@
-// Prints the figures of a full table: 64 streams over 8 in-bound and 8 out-bound lines, each of which is
-// busy about nine ticks of ten.
+//! Prints the figures of a full table: 64 streams over 8 in-bound and 8 out-bound lines, each of which is
+//! busy about nine ticks of ten.
 #![tactic(auto)]
 
 use arrivals::{Arrival, Bucket, Choice, Message};
@@ -43,7 +43,7 @@ fn bucket(burst: u32, interval: u32) -> Kind {
     Choice::Second(Bucket { burst, interval })
 }
 
-// Eight kinds, from short bursts to long ones; each line carries one stream of each.
+/// Eight kinds, from short bursts to long ones; each line carries one stream of each.
 fn kind(row: u8, column: u8) -> Kind {
     let longer = 3 * u32::from(column);
     match row {

@@ -1,4 +1,4 @@
-// The entries of a listing, each of them one line.
+//! The entries of a listing, each of them one line.
 ghost use Rattle.std.specs.Prelude.{◌≡◌, ◌≤◌, length};
 ghost use Rattle.listing.specs.Laid.{laid};
 ghost use Rattle.listing.specs.Text.{line_text};
@@ -8,30 +8,30 @@ use crate::lines::Line;
 
 #[derive(Clone, Copy)]
 pub enum Entry {
-    // The record at this byte was carried out.
+    /// The record at this byte was carried out.
     Done {
         at: usize,
     },
-    // It was refused, by this number, and the refusal names this stream or line. A number, since no fault is known down
-    // here, and a line tells no more of one.
+    /// It was refused, by this number, and the refusal names this stream or line. A number, since no fault is known down
+    /// here, and a line tells no more of one.
     Refused {
         at: usize,
         number: u8,
         party: u16,
     },
-    // Reading stopped at this byte, by the refusal of this number.
+    /// Reading stopped at this byte, by the refusal of this number.
     Stopped {
         at: usize,
         number: u8,
     },
-    // The delays of a stream at its two ports, and its total.
+    /// The delays of a stream at its two ports, and its total.
     Stream {
         number: u16,
         q1: u32,
         q2: u32,
         total: u32,
     },
-    // The places that a line's port needs, of those it has.
+    /// The places that a line's port needs, of those it has.
     Line {
         number: u8,
         need: u32,
@@ -39,7 +39,7 @@ pub enum Entry {
     },
 }
 
-// What a fixed vector of entries holds at places that are not in use.
+/// What a fixed vector of entries holds at places that are not in use.
 impl Default for Entry {
     ghost is_default = { λ e. e ≡ Done 0 };
 
@@ -49,7 +49,7 @@ impl Default for Entry {
 }
 
 impl Entry {
-    // How many bytes its line takes.
+    /// How many bytes its line takes.
     pub fn room(&self) -> usize
         ensures value { result ≡ length (line_text self.now) }
         ensures bound { result ≤ 90 }
@@ -57,7 +57,7 @@ impl Entry {
         self.line().text.len()
     }
 
-    // Writes its line at the start of the slice, and says how many bytes that were.
+    /// Writes its line at the start of the slice, and says how many bytes that were.
     pub fn write(&self, out: &mut [u8]) -> usize
         requires { length (line_text self.now) ≤ length out.old }
         ensures count { result ≡ length (line_text self.now) }

@@ -1,4 +1,4 @@
-// The lines of a plan's listing, written as text into a buffer of the caller's.
+//! The lines of a plan's listing, written as text into a buffer of the caller's.
 #![tactic(auto)]
 
 mod entries;

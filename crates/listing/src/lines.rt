@@ -1,14 +1,14 @@
-// A line while it grows: texts and numbers, one behind the other.
+//! A line while it grows: texts and numbers, one behind the other.
 ghost use Rattle.std.specs.Prelude.{◌≡◌, ◌+◌, ◌≤◌, [], ◌++◌, length};
 
 use arrayvec::ArrayString;
 use itoa::{Buffer, Integer};
 
-// No line has more bytes.
+/// No line has more bytes.
 const LONGEST_LINE: usize = 90;
 
-// It has no `write!`: the contract of `fmt` says nothing of where it fails, so the check left open that `Entry::room`,
-// which cannot fail, gets the whole text.
+/// It has no `write!`: the contract of `fmt` says nothing of where it fails, so the check left open that `Entry::room`,
+/// which cannot fail, gets the whole text.
 #[derive(Clone, Copy)]
 pub struct Line {
     pub text: ArrayString<LONGEST_LINE>,
@@ -32,7 +32,7 @@ impl Line {
         self
     }
 
-    // The decimal digits of the number.
+    /// The decimal digits of the number.
     pub fn number<I: Integer>(self, n: I) -> Line
         requires { length self.text.bytes + I.MAX_STR_LEN ≤ 90 }
         ensures text { result.text.bytes ≡ self.text.bytes ++ I.text n }

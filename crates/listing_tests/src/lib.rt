@@ -1,4 +1,4 @@
-// Tests of the listing: the lines of a worked plan, and buffers that are just long enough and a byte too short.
+//! Tests of the listing: the lines of a worked plan, and buffers that are just long enough and a byte too short.
 #![tactic(auto)]
 
 #[cfg(test)]
@@ -64,7 +64,7 @@ mod tests {
         assert_eq!(rt; out, [b'-'; SHORT]);
     }
 
-    // The lines of refusals, with the largest numbers too; what lies behind the text stays.
+    /// The lines of refusals, with the largest numbers too; what lies behind the text stays.
     #[test]
     fn refusals(rt: HostRuntime) {
         let entries = [

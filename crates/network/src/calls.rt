@@ -1,4 +1,4 @@
-// The calls on a network, and their answers.
+//! The calls on a network, and their answers.
 ghost use Rattle.std.specs.Prelude.{Some};
 ghost use Rattle.network.specs.Words.{call_text, told_text};
 
@@ -9,19 +9,19 @@ use std::fmt;
 
 #[derive(Clone, Copy)]
 pub enum Call<K> {
-    // File this stream.
+    /// File this stream.
     Request(Stream<K>),
-    // Take the stream with this number out.
+    /// Take the stream with this number out.
     Withdraw(u16),
-    // Set the places of the line with this number.
+    /// Set the places of the line with this number.
     SetPlaces(u8, u32),
-    // Tell the figures of the stream with this number.
+    /// Tell the figures of the stream with this number.
     OfStream(u16),
-    // Tell the figures of the line with this number.
+    /// Tell the figures of the line with this number.
     OfLine(u8),
 }
 
-// What a call that is not refused tells.
+/// What a call that is not refused tells.
 #[derive(Clone, Copy)]
 pub enum Told {
     Done,

@@ -1,4 +1,4 @@
-// A draft: a hub that takes its lines, until it is closed.
+//! A draft: a hub that takes its lines, until it is closed.
 ghost use Rattle.std.specs.Prelude.{◌≡◌, ℕ, min, true, false, [], length, MatchResult};
 ghost use Rattle.figures.specs.Limits.{most_streams};
 ghost use Rattle.figures.specs.Racks.{hub_kept, rack_kept};
@@ -16,7 +16,7 @@ pub struct Draft {
     ghost sixteen: { length rack.lines ≡ 16 },
 }
 
-// Whether the line's fields keep their limits.
+/// Whether the line's fields keep their limits.
 fn has_fields_within(line: &Line) -> bool
     ensures { result ≡ line_within line.now }
 {
@@ -26,7 +26,7 @@ fn has_fields_within(line: &Line) -> bool
 }
 
 impl Draft {
-    // A draft without lines, around a hub with these switch times.
+    /// A draft without lines, around a hub with these switch times.
     pub fn new(least: u32, most: u32) -> Result<Draft, TableFault>
         ensures { MatchResult result (λ d. (d.rack ≡ bare_rack least most) × (hub_kept (record { least = least; most = most }) ≡ true)) (λ e. (e ≡ OutsideLimits) × (hub_kept (record { least = least; most = most }) ≡ false)) }
     {
@@ -42,7 +42,7 @@ impl Draft {
         })
     }
 
-    // Takes the line under the number, or says why not and changes nothing.
+    /// Takes the line under the number, or says why not and changes nothing.
     pub fn add_line(&mut self, number: u8, line: Line) -> Result<(), TableFault>
         ensures told { result ≡ verdict (unlined self.old.rack number line) }
         ensures rack { self.new.rack ≡ unless (unlined self.old.rack number line) (line_set self.old.rack number line) self.old.rack }

@@ -1,4 +1,4 @@
-// Drafts and networks: lines, then streams in memory that the caller lends, admitted only where every check passes.
+//! Drafts and networks: lines, then streams in memory that the caller lends, admitted only where every check passes.
 #![tactic(auto)]
 
 mod calls;

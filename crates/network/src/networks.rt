@@ -1,5 +1,5 @@
-// A network as its callers have it: what it keeps, and that its table passes, is in its type, so that no call asks
-// for it.
+//! A network as its callers have it: what it keeps, and that its table passes, is in its type, so that no call asks
+//! for it.
 ghost use Rattle.std.specs.Prelude.{◌≡◌, true, length};
 ghost use Rattle.figures.specs.Tables.{Passing, table_kept};
 ghost use Rattle.records.specs.Lists.{numbers_differ};
@@ -13,8 +13,8 @@ mod public;
 
 pub use public::{carry_all, carry_out};
 
-// That the table passes is truncated: its figures are functions of all streams, and what they are of streams that it
-// lacks is left open. What each call tells has it as it is.
+/// That the table passes is truncated: its figures are functions of all streams, and what they are of streams that it
+/// lacks is left open. What each call tells has it as it is.
 #[derive(Drop)]
 pub struct Network<'a, K: Arrival> {
     records: Records<'a, K>,

@@ -1,4 +1,4 @@
-// Tests of drafts and networks, by tables of cases worked out by hand.
+//! Tests of drafts and networks, by tables of cases worked out by hand.
 #![tactic(auto)]
 
 #[cfg(test)]
@@ -20,7 +20,7 @@ mod tests {
         }
     }
 
-    // The lines 1, 5 and 7 are in-bound, 2, 3 and 4 are out-bound, and the line 3 has one place only.
+    /// The lines 1, 5 and 7 are in-bound, 2, 3 and 4 are out-bound, and the line 3 has one place only.
     fn draft() -> Option<Draft> {
         let mut draft = Draft::new(1, 3).ok()?;
         let lines = [
@@ -37,7 +37,7 @@ mod tests {
         Some(draft)
     }
 
-    // So many cells, a gap apart, in each period.
+    /// So many cells, a gap apart, in each period.
     fn message(period: u32, cells: u32, gap: u32) -> Kind {
         Choice::First(Message {
             period,
@@ -77,7 +77,7 @@ mod tests {
         stream(11, 1, 1, 2, 30, kind)
     }
 
-    // The refusal's number and whom it names.
+    /// The refusal's number and whom it names.
     type Refusal = (u8, u16);
 
     fn refusal(fault: TableFault) -> Refusal {
@@ -88,7 +88,7 @@ mod tests {
         res.map_err(refusal)
     }
 
-    // q1, q2 and total.
+    /// q1, q2 and total.
     fn of_stream(network: &Network<Kind>, number: u16) -> Result<(u32, u32, u32), Refusal> {
         match network.stream_figures(number) {
             Ok(figures) => Ok((figures.q1, figures.q2, figures.total)),
@@ -96,7 +96,7 @@ mod tests {
         }
     }
 
-    // The need and the places.
+    /// The need and the places.
     fn of_line(network: &Network<Kind>, number: u8) -> Result<(u32, u32), Refusal> {
         match network.line_figures(number) {
             Ok(figures) => Ok((figures.need, figures.places)),
@@ -104,7 +104,7 @@ mod tests {
         }
     }
 
-    // The figures of the streams 10 and 11 and of the lines 1 and 2.
+    /// The figures of the streams 10 and 11 and of the lines 1 and 2.
     fn is_full_plan(network: &Network<Kind>) -> bool {
         of_stream(network, 10) == Ok((1, 1, 18))
             && of_stream(network, 11) == Ok((9, 5, 30))
@@ -112,7 +112,7 @@ mod tests {
             && of_line(network, 2) == Ok((2, 8))
     }
 
-    // A network with the streams 10 and 11, filed in this order.
+    /// A network with the streams 10 and 11, filed in this order.
     fn full_plan(memory: &mut [Stream<Kind>]) -> Option<Network<'_, Kind>> {
         let mut network = draft()?.close(memory);
         network.request(stream_10()).ok()?;
@@ -120,7 +120,7 @@ mod tests {
         Some(network)
     }
 
-    // How many of the streams are filed, and why the next is not.
+    /// How many of the streams are filed, and why the next is not.
     fn filed(
         memory: &mut [Stream<Kind>],
         streams: &[Stream<Kind>],
@@ -134,7 +134,7 @@ mod tests {
         Some((streams.len(), Ok(())))
     }
 
-    // The switch times of the hub.
+    /// The switch times of the hub.
     #[test]
     fn hubs(rt: HostRuntime) {
         let cases = [
@@ -150,7 +150,7 @@ mod tests {
         }
     }
 
-    // Line, cell time, propagation, places; the answer. The line 1 is taken.
+    /// Line, cell time, propagation, places; the answer. The line 1 is taken.
     #[test]
     fn lines(rt: HostRuntime) -> Result<(), Fail> {
         let cases = [
@@ -181,8 +181,8 @@ mod tests {
         Ok(())
     }
 
-    // Number, priority, in-bound line, out-bound line, deadline; the refusal and whom it names. The streams 10
-    // and 11 are filed with the priorities 2 and 1, and their figures stay.
+    /// Number, priority, in-bound line, out-bound line, deadline; the refusal and whom it names. The streams 10
+    /// and 11 are filed with the priorities 2 and 1, and their figures stay.
     #[test]
     fn requests(rt: HostRuntime) -> Result<(), Fail> {
         let cases = [
@@ -233,7 +233,7 @@ mod tests {
         Ok(())
     }
 
-    // A full table of two: 24 before 25, 25 before 27.
+    /// A full table of two: 24 before 25, 25 before 27.
     #[test]
     fn full_table(rt: HostRuntime) {
         let mut memory = [stream_10(); 2];
@@ -252,7 +252,7 @@ mod tests {
         let mut larger = [stream_10(); 3];
         assert_eq!(rt; filed(&mut larger, &free), Some((2, Err((27, 12)))));
     }
-    // The newcomer, why it is refused, and whom the refusal names.
+    /// The newcomer, why it is refused, and whom the refusal names.
     #[test]
     fn alone(rt: HostRuntime) {
         let cases = [
@@ -279,7 +279,7 @@ mod tests {
         }
     }
 
-    // The stream that is filed, the newcomer above it, why this one is refused, and whom the refusal names.
+    /// The stream that is filed, the newcomer above it, why this one is refused, and whom the refusal names.
     #[test]
     fn together(rt: HostRuntime) {
         let cases = [
@@ -305,7 +305,7 @@ mod tests {
         }
     }
 
-    // Newcomers beside the streams 10 and 11, refused by a figure: those keep theirs.
+    /// Newcomers beside the streams 10 and 11, refused by a figure: those keep theirs.
     #[test]
     fn newcomers(rt: HostRuntime) -> Result<(), Fail> {
         let cases = [
@@ -324,7 +324,7 @@ mod tests {
         Ok(())
     }
 
-    // A stream's number, and the refusals of its withdrawal and of its figures.
+    /// A stream's number, and the refusals of its withdrawal and of its figures.
     #[test]
     fn unknown_streams(rt: HostRuntime) -> Result<(), Fail> {
         let mut memory = [stream_10(); 4];
@@ -344,7 +344,7 @@ mod tests {
         Ok(())
     }
 
-    // A line, the places that it is to have, and the refusal.
+    /// A line, the places that it is to have, and the refusal.
     #[test]
     fn places(rt: HostRuntime) -> Result<(), Fail> {
         let cases = [
@@ -382,7 +382,7 @@ mod tests {
         Ok(())
     }
 
-    // One cell of each in a long time.
+    /// One cell of each in a long time.
     fn many() -> [Stream<Kind>; 66] {
         let mut streams = [stream(1, 255, 7, 4, 500_000, message(200_000, 1, 1)); 66];
         for place in 1..66u8 {
@@ -393,7 +393,7 @@ mod tests {
         streams
     }
 
-    // The records of the lent memory, how many of 66 streams are filed there, and the first that is not.
+    /// The records of the lent memory, how many of 66 streams are filed there, and the first that is not.
     #[test]
     fn rooms(rt: HostRuntime) {
         let streams = many();
@@ -412,7 +412,7 @@ mod tests {
         }
     }
 
-    // A stream that is withdrawn leaves its place, number and priority to another; filed again, it has its figures.
+    /// A stream that is withdrawn leaves its place, number and priority to another; filed again, it has its figures.
     #[test]
     fn withdrawals(rt: HostRuntime) -> Result<(), Fail> {
         let mut memory = [stream_10(); 2];
@@ -433,7 +433,7 @@ mod tests {
         Ok(())
     }
 
-    // The faults of a kind, as faults of the call that makes it.
+    /// The faults of a kind, as faults of the call that makes it.
     #[test]
     fn kinds(rt: HostRuntime) {
         let cases = [

@@ -1,4 +1,4 @@
-// Reads a plan file from standard input, and writes its listing.
+//! Reads a plan file from standard input, and writes its listing.
 #![tactic(auto)]
 
 use figures::MOST_STREAMS;
@@ -6,7 +6,7 @@ use planfile::{LONGEST_LISTING, NO_STREAM, list_plan};
 use std::io;
 use std::io::{Read, Write};
 
-// One byte more than a plan file may have: enough to tell that a file is too long.
+/// One byte more than a plan file may have: enough to tell that a file is too long.
 const MOST_READ: u64 = 8_001;
 
 fn main(rt: HostRuntime) -> io::Result<()> {

@@ -1,4 +1,4 @@
-// Plan files: their records carried out one after the other, and the listing of what came of it.
+//! Plan files: their records carried out one after the other, and the listing of what came of it.
 #![tactic(auto)]
 
 mod journals;

@@ -1,4 +1,4 @@
-// The phases of a plan file, and the records that may stand in each.
+//! The phases of a plan file, and the records that may stand in each.
 ghost use Rattle.std.specs.Prelude.{◌≡◌};
 ghost use Rattle.planfile.specs.Stages.{admits, read_in};
 
@@ -6,16 +6,16 @@ use wire::{FileFault, Kind, Placed, Record, Shape};
 
 #[derive(Clone, Copy)]
 pub enum Phase {
-    // No record yet.
+    /// No record yet.
     Opening,
-    // The draft takes lines.
+    /// The draft takes lines.
     Drafting,
-    // The draft is closed.
+    /// The draft is closed.
     Running,
 }
 
 impl Phase {
-    // Whether a record of this shape may stand here.
+    /// Whether a record of this shape may stand here.
     fn admits(&self, shape: Shape) -> bool
         ensures { result ≡ admits self.now shape }
     {
@@ -28,7 +28,7 @@ impl Phase {
         }
     }
 
-    // What the record says, if it may stand here.
+    /// What the record says, if it may stand here.
     pub fn read(&self, piece: Placed) -> Result<Record<Kind>, FileFault>
         ensures { result ≡ read_in self.now piece.entry.at piece.entry.bytes.now }
     {

@@ -1,4 +1,4 @@
-// A plan file, read and carried out whole, and its listing.
+//! A plan file, read and carried out whole, and its listing.
 ghost use Rattle.std.specs.Prelude.{◌≡◌, ℕ, ◌≤◌, min, true, [], length, is_ok, MatchResult};
 ghost use Rattle.figures.specs.Limits.{most_streams};
 ghost use Rattle.planfile.specs.Plans.{PlanTold, longest_listing};
@@ -15,10 +15,10 @@ use listing::{Entry, write_listing};
 use network::Draft;
 use wire::{FileFault, Kind, Walker, open};
 
-// No listing has more bytes: it has at most 1,679 lines (`MOST_ENTRIES`), of at most 90 bytes each.
+/// No listing has more bytes: it has at most 1,679 lines (`MOST_ENTRIES`), of at most 90 bytes each.
 pub const LONGEST_LISTING: usize = 151_110;
 
-// What lent memory may hold before there is any stream.
+/// What lent memory may hold before there is any stream.
 pub const NO_STREAM: Stream<Kind> = Stream {
     number: 0,
     priority: 0,
@@ -31,7 +31,7 @@ pub const NO_STREAM: Stream<Kind> = Stream {
     }),
 };
 
-// Closes the draft, carries out the calls up to the end of the file, and notes the figures of the network that they leave.
+/// Closes the draft, carries out the calls up to the end of the file, and notes the figures of the network that they leave.
 fn finish(
     walker: Walker,
     draft: Draft,
@@ -47,7 +47,7 @@ fn finish(
     Ok(())
 }
 
-// Reads the file to its end, or to a fault of the input.
+/// Reads the file to its end, or to a fault of the input.
 fn read_plan(
     bytes: &[u8],
     memory: &mut [Stream<Kind>],
@@ -66,7 +66,7 @@ fn read_plan(
     finish(walker, draft, memory, journal)
 }
 
-// The entries of the file's listing.
+/// The entries of the file's listing.
 fn list_entries(bytes: &[u8], memory: &mut [Stream<Kind>]) -> Journal
     ensures { Entered (min most_streams (length memory.old)) bytes.now (noted result) }
 {
@@ -80,9 +80,9 @@ fn list_entries(bytes: &[u8], memory: &mut [Stream<Kind>]) -> Journal
     journal
 }
 
-// Carries out the plan file on a network with its table in this memory, and writes the listing of what came of it at
-// the start of the buffer. It says how long the listing is, or that it does not fit; then nothing is written. With room for
-// `LONGEST_LISTING` bytes it fits. What the memory holds afterwards is left open.
+/// Carries out the plan file on a network with its table in this memory, and writes the listing of what came of it at
+/// the start of the buffer. It says how long the listing is, or that it does not fit; then nothing is written. With room for
+/// `LONGEST_LISTING` bytes it fits. What the memory holds afterwards is left open.
 pub fn list_plan(
     bytes: &[u8],
     memory: &mut [Stream<Kind>],

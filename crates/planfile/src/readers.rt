@@ -1,4 +1,4 @@
-// The records of a file, one after the other: first the lines of a draft, then the calls on its network.
+//! The records of a file, one after the other: first the lines of a draft, then the calls on its network.
 ghost use Rattle.std.specs.Prelude.{◌≡◌, ℕ, ◌+◌, ◌*◌, ◌≤◌, length, MatchResult};
 ghost use Rattle.records.specs.Records.{state_of};
 ghost use Rattle.planfile.specs.Points.{Ends, Fitting, Leads, Stops, noted};
@@ -9,7 +9,7 @@ use crate::stages::{read_line, take_call};
 use network::{Draft, Network};
 use wire::{FileFault, Kind, Walker};
 
-// Takes the lines, and leaves the walker at the record that closes the draft, or at the end of the file.
+/// Takes the lines, and leaves the walker at the record that closes the draft, or at the end of the file.
 pub fn read_lines(
     walker: &mut Walker,
     draft: &mut Draft,
@@ -29,8 +29,8 @@ pub fn read_lines(
     Ok(())
 }
 
-// Takes the calls, up to the end of the file. Network and journal stay two parameters here and in what is called: the
-// journal outlives a fault and the network does not, so a struct of both would be two references, and no plainer.
+/// Takes the calls, up to the end of the file. Network and journal stay two parameters here and in what is called: the
+/// journal outlives a fault and the network does not, so a struct of both would be two references, and no plainer.
 pub fn run(
     walker: Walker,
     network: &mut Network<Kind>,

@@ -1,4 +1,4 @@
-// One record at each stage of a plan: the hub, a line of the draft, a call on the network.
+//! One record at each stage of a plan: the hub, a line of the draft, a call on the network.
 ghost use Rattle.std.specs.Prelude.{◌≡◌, ℕ, ◌<◌, true, length, Ok, Err, MatchResult};
 ghost use Rattle.records.specs.Records.{state_of};
 ghost use Rattle.planfile.specs.Points.{Took, Opens, noted};
@@ -12,7 +12,7 @@ use figures::Line;
 use network::{Draft, Network};
 use wire::{FileFault, Kind, Placed, Record, placed};
 
-// The draft of the first record.
+/// The draft of the first record.
 pub fn open_draft(piece: Placed) -> Result<Draft, FileFault>
     ensures { MatchResult result (λ draft. Opens piece.entry.at piece.entry.bytes.now (Ok draft.rack)) (λ fault. Opens piece.entry.at piece.entry.bytes.now (Err fault)) }
 {
@@ -22,7 +22,7 @@ pub fn open_draft(piece: Placed) -> Result<Draft, FileFault>
     placed(piece.at, Draft::new(least, most))
 }
 
-// The line that a record of the draft says, with its number; none where the record is a call, which closes the draft.
+/// The line that a record of the draft says, with its number; none where the record is a call, which closes the draft.
 pub fn read_line(piece: Placed) -> Result<Option<(u8, Line)>, FileFault>
     ensures { result ≡ lined (read_in Drafting piece.entry.at piece.entry.bytes.now) }
 {
@@ -32,7 +32,7 @@ pub fn read_line(piece: Placed) -> Result<Option<(u8, Line)>, FileFault>
     }
 }
 
-// Carries out what the record asks of the network.
+/// Carries out what the record asks of the network.
 fn call(network: &mut Network<Kind>, what: Record<Kind>) -> Result<(), TableFault>
     requires { is_call what ≡ true }
     ensures { Called (state_of network.old.records) what result (state_of network.new.records) }
@@ -45,7 +45,7 @@ fn call(network: &mut Network<Kind>, what: Record<Kind>) -> Result<(), TableFaul
     }
 }
 
-// Takes the record as a call on the network.
+/// Takes the record as a call on the network.
 pub fn take_call(
     network: &mut Network<Kind>,
     journal: &mut Journal,

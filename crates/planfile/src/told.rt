@@ -1,4 +1,4 @@
-// The figures of a network, as the last entries of a listing.
+//! The figures of a network, as the last entries of a listing.
 ghost use Rattle.std.specs.Prelude.{◌≡◌, ◌+◌, ◌≤◌, length};
 ghost use Rattle.figures.specs.Told.{DelaysAre, FiguresAre};
 ghost use Rattle.records.specs.Records.{table, state_of};
@@ -12,7 +12,7 @@ use listing::Entry;
 use network::Network;
 use wire::Kind;
 
-// Notes the figures of the streams, in table order.
+/// Notes the figures of the streams, in table order.
 fn list_streams(network: &Network<Kind>, view: &Table<Kind>, delays: &Delays, journal: &mut Journal)
     requires rack { view.now.rack.now ≡ network.now.records.rack }
     requires streams { view.now.streams.now ≡ table network.now.records }
@@ -33,7 +33,7 @@ fn list_streams(network: &Network<Kind>, view: &Table<Kind>, delays: &Delays, jo
     }
 }
 
-// Notes the needs of the lines, by rising number.
+/// Notes the needs of the lines, by rising number.
 fn list_lines(network: &Network<Kind>, figures: &Figures, journal: &mut Journal)
     requires figures { FiguresAre plan_alpha network.now.records.rack (table network.now.records) figures.now }
     requires few { length (noted journal.old) + 16 ≤ 1679 }
@@ -51,7 +51,7 @@ fn list_lines(network: &Network<Kind>, figures: &Figures, journal: &mut Journal)
     }
 }
 
-// Notes the figures of the network: of its streams, then of its lines.
+/// Notes the figures of the network: of its streams, then of its lines.
 pub fn list_figures(network: &Network<Kind>, journal: &mut Journal)
     requires { length (noted journal.old) + length (table network.now.records) + 16 ≤ 1679 }
     ensures { Added (NetworkListed (state_of network.now.records)) (noted journal.old) (noted journal.new) }

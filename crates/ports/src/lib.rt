@@ -1,4 +1,4 @@
-// The figures of one port, for any load: the longest wait there, and the places that it needs.
+//! The figures of one port, for any load: the longest wait there, and the places that it needs.
 #![tactic(auto)]
 
 mod loads;

@@ -1,13 +1,13 @@
-// What comes to a port in a window of ticks.
+//! What comes to a port in a window of ticks.
 ghost use Rattle.std.specs.Prelude.{◌≡◌, ℕ, min};
 ghost use Rattle.arrivals.specs.Limits.{longest};
 ghost use Rattle.ports.specs.Loads.{Rising};
 
 pub trait Load {
-    // The most cells that come in any `w` successive ticks.
+    /// The most cells that come in any `w` successive ticks.
     ghost load: { Self → ℕ → ℕ };
 
-    // The load at `window`, or at the longest window where that is shorter.
+    /// The load at `window`, or at the longest window where that is shorter.
     fn at(&self, window: u32) -> u32
         ensures { result ≡ load self.now (min window longest) };
 

@@ -1,4 +1,4 @@
-// How many places a port needs: U and the need, for any load.
+//! How many places a port needs: U and the need, for any load.
 ghost use Rattle.std.specs.Prelude.{◌≡◌, ℕ, ◌+◌, ◌-◌, ◌≤◌};
 ghost use Rattle.arrivals.specs.Least.{Found, Largest};
 ghost use Rattle.ports.specs.Limits.{horizon};
@@ -9,7 +9,7 @@ use crate::ports::Port;
 use crate::waits::HORIZON;
 
 impl<L: Load> Port<L> {
-    // The least number of ticks after which the port is clear again. A loop, since it leaps and doesn't count.
+    /// The least number of ticks after which the port is clear again. A loop, since it leaps and doesn't count.
     fn clears(&self) -> Option<u32>
         ensures { Found (Clears self.now.cell_time (L.Load.load self.now.load)) horizon result }
     {
@@ -26,7 +26,7 @@ impl<L: Load> Port<L> {
         None
     }
 
-    // The cells that may hold a place `u` ticks after a busy period begins.
+    /// The cells that may hold a place `u` ticks after a busy period begins.
     fn held(&self, u: u32) -> u32
         requires { u ≤ horizon }
         ensures { result ≡ holding self.now.cell_time (L.Load.load self.now.load) u }
@@ -36,8 +36,8 @@ impl<L: Load> Port<L> {
             .saturating_sub(u.saturating_sub(self.cell_time) / self.cell_time)
     }
 
-    // The most cells that hold a place up to `until`. During one sending the load only grows, so that it is
-    // enough to look at the last tick of each. A loop, since the last leap is shorter than the others.
+    /// The most cells that hold a place up to `until`. During one sending the load only grows, so that it is
+    /// enough to look at the last tick of each. A loop, since the last leap is shorter than the others.
     fn most_held(&self, until: u32) -> u32
         requires { (1 ≤ until) × (until ≤ horizon) }
         ensures { Largest (holding self.now.cell_time (L.Load.load self.now.load)) 1 until result }
@@ -51,7 +51,7 @@ impl<L: Load> Port<L> {
         most
     }
 
-    // The need of the port, where its load is what all its streams queue.
+    /// The need of the port, where its load is what all its streams queue.
     pub fn need(&self) -> Option<u32>
         ensures { PortNeed self.now.cell_time (L.Load.load self.now.load) result }
     {

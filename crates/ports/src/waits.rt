@@ -1,4 +1,4 @@
-// How long a cell waits at a port: w_k, e_k and the port delay, for any load.
+//! How long a cell waits at a port: w_k, e_k and the port delay, for any load.
 ghost use Rattle.std.specs.Prelude.{◌≡◌, ℕ, ◌+◌, ◌-◌, ◌*◌, ◌≤◌};
 ghost use Rattle.arrivals.specs.Least.{Least};
 ghost use Rattle.ports.specs.Limits.{horizon};
@@ -8,11 +8,11 @@ ghost use Rattle.ports.specs.Port.{ahead, Wait, Queued, PortDelay};
 use crate::loads::Load;
 use crate::ports::Port;
 
-// No wait and no busy period is looked for beyond it.
+/// No wait and no busy period is looked for beyond it.
 pub const HORIZON: u32 = 200_000;
 
-// The earliest tick that the cell `index` can be queued at, where it is from `low` to `high`. A loop, since the
-// library's binary searches go over slices and not over ranges of numbers.
+/// The earliest tick that the cell `index` can be queued at, where it is from `low` to `high`. A loop, since the
+/// library's binary searches go over slices and not over ranges of numbers.
 fn earliest<L: Load>(own: &L, index: u32, low: u32, high: u32) -> u32
     requires near { high ≤ horizon }
     requires queued { Queued (L.Load.load own.now) index high }
@@ -33,7 +33,7 @@ fn earliest<L: Load>(own: &L, index: u32, low: u32, high: u32) -> u32
 }
 
 impl<L: Load> Port<L> {
-    // The wait of the cell `index` of a busy period, from `from` on. A loop, since it leaps and doesn't count.
+    /// The wait of the cell `index` of a busy period, from `from` on. A loop, since it leaps and doesn't count.
     fn wait(&self, index: u32, from: u32) -> Option<u32>
         requires { Below (ahead self.now.cell_time (L.Load.load self.now.load) index) horizon from }
         ensures { Wait self.now.cell_time (L.Load.load self.now.load) index result }
@@ -51,7 +51,7 @@ impl<L: Load> Port<L> {
         None
     }
 
-    // The port delay of a stream that queues `own`, where the load is what goes before it.
+    /// The port delay of a stream that queues `own`, where the load is what goes before it.
     pub fn delay<A: Load>(&self, own: &A) -> Option<u32>
         requires { 1 ≤ A.Load.load own.now 1 }
         ensures { PortDelay self.now.cell_time (A.Load.load own.now) (L.Load.load self.now.load) result }

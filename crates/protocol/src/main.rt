@@ -1,4 +1,4 @@
-// Lines come first: a draft takes them until it is closed, and its network takes none.
+//! Lines come first: a draft takes them until it is closed, and its network takes none.
 #![tactic(auto)]
 
 use admission::TableFault;
@@ -7,7 +7,7 @@ use figures::{Line, Side, Stream};
 use network::{Draft, LineFigures};
 use std::io;
 
-// What a network of one line tells of this line.
+/// What a network of one line tells of this line.
 fn one_line(memory: &mut [Stream<Bucket>]) -> Result<LineFigures, TableFault> {
     let line = Line {
         side: Side::Inbound,

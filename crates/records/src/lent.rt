@@ -1,4 +1,4 @@
-// The table of a network in lent memory, its searches, and the moves of one record into it and out of it.
+//! The table of a network in lent memory, its searches, and the moves of one record into it and out of it.
 ghost use Rattle.std.specs.Prelude.{◌≡◌, ◌==◌, ◌+◌, ◌-◌, ◌<◌, ◌≤◌, ◌∷◌, ◌++◌, true, length, min, take, MatchBool, drop, slice_index_or};
 ghost use Rattle.std.specs.List.{insert, position, remove};
 ghost use Rattle.figures.specs.Limits.{most_streams};
@@ -11,8 +11,8 @@ use admission::{TableFault, check};
 use arrivals::Arrival;
 use figures::{MOST_STREAMS, Rack, Stream};
 
-// The first `len` records of the memory are the table. The caller lends the memory, since no crate here has a
-// heap; so the length stands beside it.
+/// The first `len` records of the memory are the table. The caller lends the memory, since no crate here has a
+/// heap; so the length stands beside it.
 #[derive(Drop)]
 pub struct LentTable<'a, K> {
     memory: &'a mut [Stream<K>],
@@ -20,15 +20,15 @@ pub struct LentTable<'a, K> {
     ghost inside: { len ≤ length memory.now },
 }
 
-// The index of the stream with the number. Each of these searches is a function of its own, since a proof follows a
-// chain only to the end of the function that makes it.
+/// The index of the stream with the number. Each of these searches is a function of its own, since a proof follows a
+/// chain only to the end of the function that makes it.
 pub fn find_number<K>(streams: &[Stream<K>], number: u16) -> Option<usize>
     ensures { result ≡ position (λ s. s.number == number) streams.now }
 {
     streams.iter().position(|stream| stream.number == number)
 }
 
-// The index of the stream with the priority.
+/// The index of the stream with the priority.
 pub fn find_priority<K>(streams: &[Stream<K>], priority: u8) -> Option<usize>
     ensures { result ≡ position (λ s. s.priority == priority) streams.now }
 {
@@ -37,7 +37,7 @@ pub fn find_priority<K>(streams: &[Stream<K>], priority: u8) -> Option<usize>
         .position(|stream| stream.priority == priority)
 }
 
-// Where a stream of the priority goes: after those that are more urgent.
+/// Where a stream of the priority goes: after those that are more urgent.
 pub fn place_of<K>(streams: &[Stream<K>], priority: u8) -> usize
     ensures { result ≡ place priority streams.now }
 {
@@ -48,7 +48,7 @@ pub fn place_of<K>(streams: &[Stream<K>], priority: u8) -> usize
 }
 
 impl<'a, K> LentTable<'a, K> {
-    // An empty table in this memory.
+    /// An empty table in this memory.
     pub fn new(memory: &'a mut [Stream<K>]) -> LentTable<'a, K>
         ensures { (result.len ≡ 0) × (result.memory.now ≡ memory.old) }
     {
@@ -61,7 +61,7 @@ impl<'a, K> LentTable<'a, K> {
         &self.memory[..self.len]
     }
 
-    // Whether there is no room for one more.
+    /// Whether there is no room for one more.
     pub fn is_full(&self) -> bool
         ensures { MatchBool result (min most_streams (length self.now.memory.now) ≤ self.now.len) (self.now.len < min most_streams (length self.now.memory.now)) }
     {
@@ -70,7 +70,7 @@ impl<'a, K> LentTable<'a, K> {
 }
 
 impl<'a, K: Copy> LentTable<'a, K> {
-    // Puts the stream in at `at`: the records from there on move down by one place, over the first that is free.
+    /// Puts the stream in at `at`: the records from there on move down by one place, over the first that is free.
     fn insert(&mut self, at: usize, stream: Stream<K>)
         requires { (at ≤ self.old.len) × (self.old.len < length self.old.memory.now) }
         ensures memory { self.new.memory.now ≡ insert (take self.old.len self.old.memory.now) at stream ++ drop (self.old.len + 1) self.old.memory.now }
@@ -82,7 +82,7 @@ impl<'a, K: Copy> LentTable<'a, K> {
         self.len = len + 1;
     }
 
-    // Takes the record at `at` out: those after it move up by one place, and it comes to lie behind them.
+    /// Takes the record at `at` out: those after it move up by one place, and it comes to lie behind them.
     pub fn remove(&mut self, at: usize)
         requires { at < self.old.len }
         ensures memory { (d : Stream K) → self.new.memory.now ≡ remove (take self.old.len self.old.memory.now) at ++ slice_index_or self.old.memory.now at d ∷ drop self.old.len self.old.memory.now }
@@ -95,7 +95,7 @@ impl<'a, K: Copy> LentTable<'a, K> {
 }
 
 impl<'a, K: Arrival + Copy> LentTable<'a, K> {
-    // Files the stream at `at`, and takes it out again where the table with it does not pass.
+    /// Files the stream at `at`, and takes it out again where the table with it does not pass.
     pub fn try_file(&mut self, rack: &Rack, at: usize, stream: Stream<K>) -> Result<(), TableFault>
         requires inside { (at ≤ self.old.len) × (self.old.len < length self.old.memory.now) }
         requires kept { table_kept rack.now (insert (take self.old.len self.old.memory.now) at stream) ≡ true }

@@ -1,4 +1,4 @@
-// The records of a network: the rack, and the table in the memory that the caller lends, with what each call does to them.
+//! The records of a network: the rack, and the table in the memory that the caller lends, with what each call does to them.
 #![tactic(auto)]
 
 mod lent;

@@ -1,4 +1,4 @@
-// The figures of one line.
+//! The figures of one line.
 ghost use Rattle.std.specs.Prelude.{Some};
 ghost use Rattle.records.specs.Words.{line_text};
 

@@ -1,11 +1,11 @@
-// The records of a network: the rack, and the table in the memory that the caller lends.
+//! The records of a network: the rack, and the table in the memory that the caller lends.
 use crate::lent::LentTable;
 use figures::Rack;
 
 mod operations;
 
-// `new` takes any rack, so its calls ask for what a sound state keeps, and keep it. A network is made of a kept rack
-// only, and has it in its type.
+/// `new` takes any rack, so its calls ask for what a sound state keeps, and keep it. A network is made of a kept rack
+/// only, and has it in its type.
 #[derive(Drop)]
 pub struct Records<'a, K> {
     rack: Rack,

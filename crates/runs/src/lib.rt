@@ -1,4 +1,4 @@
-// Runs of a table's streams in a rack, and what is promised of all of them: theorems, and no code to call.
+//! Runs of a table's streams in a rack, and what is promised of all of them: theorems, and no code to call.
 #![tactic(auto)]
 
 mod theorems;

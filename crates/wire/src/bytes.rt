@@ -1,8 +1,8 @@
-// Numbers from bytes, the most significant byte first.
+//! Numbers from bytes, the most significant byte first.
 ghost use Rattle.std.specs.Prelude.{◌≡◌, ℕ, ◌+◌, ◌≤◌, length};
 ghost use Rattle.wire.specs.Bytes.{be, number_at};
 
-// A number that a file has in N bytes.
+/// A number that a file has in N bytes.
 pub trait BigEndian<const N: usize>: Sized {
     ghost value: { Self → ℕ };
 
@@ -37,7 +37,7 @@ impl BigEndian<4> for u32 {
     }
 }
 
-// The number of the N bytes from this place on.
+/// The number of the N bytes from this place on.
 pub fn number_at<T: BigEndian<N>, const N: usize>(bytes: &[u8], place: usize) -> T
     requires { place + N ≤ length bytes.now }
     ensures { T.value result ≡ number_at bytes.now place N }

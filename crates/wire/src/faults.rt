@@ -1,31 +1,31 @@
-// Why a plan file is refused.
+//! Why a plan file is refused.
 ghost use Rattle.std.specs.Prelude.{◌≡◌};
 ghost use Rattle.wire.specs.Faults.{refusal, party, place, layer, with_place};
 ghost use Rattle.wire.specs.declared.faults.FileFault.TheVariants.{Table};
 
 use admission::{Layer, TableFault};
 
-// A place is that of the record's first length byte, counted from 0 at the file's first byte.
+/// A place is that of the record's first length byte, counted from 0 at the file's first byte.
 #[derive(Clone, Copy, PartialEq, Eq, Debug)]
 pub enum FileFault {
-    // The file has more than 8,000 bytes.
+    /// The file has more than 8,000 bytes.
     TooLong,
-    // The version byte is missing, or is not 1.
+    /// The version byte is missing, or is not 1.
     Version,
-    // The file ends within the record at this place.
+    /// The file ends within the record at this place.
     CutShort(usize),
-    // The record at this place has an unknown kind, or a length that is not its kind's.
+    /// The record at this place has an unknown kind, or a length that is not its kind's.
     Malformed(usize),
-    // The record at this place may not stand there.
+    /// The record at this place may not stand there.
     Misplaced(usize),
-    // The record at this place is refused by the table.
+    /// The record at this place is refused by the table.
     Table { at: usize, fault: TableFault },
-    // The listing is longer than the buffer.
+    /// The listing is longer than the buffer.
     NoRoom,
 }
 
 impl FileFault {
-    // The number by which the refusal is known.
+    /// The number by which the refusal is known.
     pub fn number(&self) -> u8
         ensures { result ≡ refusal self.now }
     {
@@ -40,7 +40,7 @@ impl FileFault {
         }
     }
 
-    // The stream or line that it names, or 0.
+    /// The stream or line that it names, or 0.
     pub fn party(&self) -> u16
         ensures { result ≡ party self.now }
     {
@@ -50,7 +50,7 @@ impl FileFault {
         }
     }
 
-    // The byte place of the record that is refused, or 0.
+    /// The byte place of the record that is refused, or 0.
     pub fn place(&self) -> usize
         ensures { result ≡ place self.now }
     {
@@ -80,7 +80,7 @@ impl From<(usize, TableFault)> for FileFault {
     }
 }
 
-// What the table answers to the record at this place, as an answer to the file.
+/// What the table answers to the record at this place, as an answer to the file.
 pub fn placed<T>(at: usize, res: Result<T, TableFault>) -> Result<T, FileFault>
     ensures { result ≡ with_place at res }
 {

@@ -1,4 +1,4 @@
-// Arrival kinds that a plan file can hold.
+//! Arrival kinds that a plan file can hold.
 ghost use Rattle.std.specs.Prelude.{◌≡◌, ℕ, List, length, Result};
 ghost use Rattle.arrivals.specs.declared.faults.KindFault.{KindFault};
 ghost use Rattle.wire.specs.Kinds.{message_of, bucket_of};
@@ -7,18 +7,18 @@ use crate::bytes::number_at;
 use arrivals::{Arrival, Bucket, KindFault, Message};
 
 pub trait Filed: Arrival + Sized {
-    // The first byte of a record of this kind.
+    /// The first byte of a record of this kind.
     const CODE: u8;
 
     ghost CODE: { ℕ };
 
-    // How many bytes the kind's own fields take; the fields that every stream has stand before them and do
-    // not count.
+    /// How many bytes the kind's own fields take; the fields that every stream has stand before them and do
+    /// not count.
     const LENGTH: usize;
 
     ghost LENGTH: { ℕ };
 
-    // What the kind's own bytes say.
+    /// What the kind's own bytes say.
     ghost filed: { List ℕ → Result Self KindFault };
 
     fn read(own: &[u8]) -> Result<Self, KindFault>

@@ -1,4 +1,4 @@
-// The records of a plan file: from bytes to values.
+//! The records of a plan file: from bytes to values.
 #![tactic(auto)]
 
 mod bytes;

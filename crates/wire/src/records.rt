@@ -1,4 +1,4 @@
-// The records of a plan file: their shapes, and the values that they hold.
+//! The records of a plan file: their shapes, and the values that they hold.
 ghost use Rattle.std.specs.Prelude.{◌≡◌, length, Some, None, MatchResult};
 ghost use Rattle.wire.specs.Records.{coded, long_of, shape_of, side_of, line_of, values_of, record_of};
 
@@ -11,10 +11,10 @@ use admission::TableFault;
 use arrivals::{Bucket, Choice, Message};
 use figures::{Line, Side, Stream};
 
-// The arrival kinds of a plan file.
+/// The arrival kinds of a plan file.
 pub type Kind = Choice<Message, Bucket>;
 
-// What a record is, by its code and its length.
+/// What a record is, by its code and its length.
 #[derive(Clone, Copy, PartialEq, Eq, Debug)]
 pub enum Shape {
     Hub,
@@ -25,22 +25,22 @@ pub enum Shape {
     Places,
 }
 
-// What a record says.
+/// What a record says.
 #[derive(Clone, Copy, PartialEq, Eq, Debug)]
 pub enum Record<K> {
-    // A hub with these switch times.
+    /// A hub with these switch times.
     Hub { least: u32, most: u32 },
-    // A line under this number.
+    /// A line under this number.
     Line { number: u8, line: Line },
-    // A stream to be filed.
+    /// A stream to be filed.
     Stream(Stream<K>),
-    // The number of a stream to be taken out.
+    /// The number of a stream to be taken out.
     Withdrawal(u16),
-    // New places for the port of the line with this number.
+    /// New places for the port of the line with this number.
     Places { number: u8, places: u32 },
 }
 
-// A byte that is no shape's code.
+/// A byte that is no shape's code.
 #[derive(Clone, Copy, PartialEq, Eq, Debug)]
 pub struct UnknownCode(pub u8);
 
@@ -63,7 +63,7 @@ impl TryFrom<u8> for Shape {
 }
 
 impl Shape {
-    // How many bytes follow the code.
+    /// How many bytes follow the code.
     fn length(&self) -> usize
         ensures { result ≡ long_of self.now }
     {
@@ -77,7 +77,7 @@ impl Shape {
         }
     }
 
-    // The values of a record of this shape, from what follows its code.
+    /// The values of a record of this shape, from what follows its code.
     fn values(&self, rest: &[u8]) -> Result<Record<Kind>, TableFault>
         requires { length rest.now ≡ long_of self.now }
         ensures { result ≡ values_of self.now rest.now }
@@ -105,7 +105,7 @@ impl Shape {
     }
 }
 
-// Not `TryFrom<u8>` for `Side`, which only the crate of `Side` may have; a type around the byte is no plainer.
+/// Not `TryFrom<u8>` for `Side`, which only the crate of `Side` may have; a type around the byte is no plainer.
 fn side(byte: u8) -> Option<Side>
     ensures { result ≡ side_of byte }
 {
@@ -133,7 +133,7 @@ fn read_line<K>(rest: &[u8]) -> Result<Record<K>, TableFault>
 }
 
 impl Placed<'_> {
-    // The record's shape, from its code and its length.
+    /// The record's shape, from its code and its length.
     pub fn shape(&self) -> Result<Shape, FileFault>
         ensures { result ≡ shape_of self.now.at self.now.bytes.now }
     {
@@ -147,7 +147,7 @@ impl Placed<'_> {
         }
     }
 
-    // What the record says: its shape first, then its values.
+    /// What the record says: its shape first, then its values.
     pub fn read(&self) -> Result<Record<Kind>, FileFault>
         ensures { result ≡ record_of self.now.at self.now.bytes.now }
     {

@@ -1,4 +1,4 @@
-// The streams of a plan file.
+//! The streams of a plan file.
 ghost use Rattle.std.specs.Prelude.{◌≡◌, ℕ, ◌+◌, ◌≤◌, length};
 ghost use Rattle.wire.specs.Records.{fields_of, stream_of, with_kind};
 
@@ -7,10 +7,10 @@ use crate::filed::Filed;
 use admission::{TableFault, has_fields_within};
 use figures::Stream;
 
-// How many bytes the fields take that every stream has.
+/// How many bytes the fields take that every stream has.
 pub const STREAM_BYTES: usize = 9;
 
-// The stream with this kind in place of its own.
+/// The stream with this kind in place of its own.
 pub fn with_kind<F, K>(stream: &Stream<F>, kind: K) -> Stream<K>
     ensures { result ≡ with_kind (λ _. kind) stream.now }
 {
@@ -24,7 +24,7 @@ pub fn with_kind<F, K>(stream: &Stream<F>, kind: K) -> Stream<K>
     }
 }
 
-// The fields that every stream has, without a kind.
+/// The fields that every stream has, without a kind.
 fn read_fields(rest: &[u8]) -> Stream<()>
     requires { 9 ≤ length rest.now }
     ensures { result ≡ fields_of rest.now }
@@ -39,8 +39,8 @@ fn read_fields(rest: &[u8]) -> Stream<()>
     }
 }
 
-// A stream of the kind F, from what follows the code: first the fields that every stream has, then those of
-// its kind.
+/// A stream of the kind F, from what follows the code: first the fields that every stream has, then those of
+/// its kind.
 pub fn read_stream<F: Filed>(rest: &[u8]) -> Result<Stream<F>, TableFault>
     requires { length rest.now ≡ 9 + F.LENGTH }
     ensures { result ≡ stream_of F.filed rest.now }

@@ -1,4 +1,4 @@
-// Tests of the plan file's records, by bytes written out by hand.
+//! Tests of the plan file's records, by bytes written out by hand.
 #![tactic(auto)]
 
 #[cfg(test)]
@@ -8,12 +8,12 @@ mod tests {
     use std::test::Fail;
     use wire::{FileFault, Placed, Record, Shape, Walker, open};
 
-    // A record at the place 1.
+    /// A record at the place 1.
     fn record(bytes: &[u8]) -> Placed<'_> {
         Placed { at: 1, bytes }
     }
 
-    // The number of the refusal, or 0.
+    /// The number of the refusal, or 0.
     fn refusal(bytes: &[u8]) -> u8 {
         match record(bytes).read() {
             Ok(_) => 0,

@@ -1,4 +1,4 @@
-// Prints the figures of a small plan: two streams over one in-bound and one out-bound line.
+//! Prints the figures of a small plan: two streams over one in-bound and one out-bound line.
 #![tactic(auto)]
 
 use arrivals::{Arrival, Bucket, Choice, Message};

@@ -1,4 +1,4 @@
-// How entries come into a journal.
+//! How entries come into a journal.
 ghost use Rattle.std.specs.Prelude.{◌≡◌, ◌<◌, ◌≤◌, [], ◌∷◌, ◌++◌, length};
 ghost use Rattle.wire.specs.Faults.{with_place};
 ghost use Rattle.wire.specs.declared.faults.FileFault.TheVariants.{Table};
@@ -11,7 +11,7 @@ use arrayvec::ArrayVec;
 use listing::Entry;
 use wire::FileFault;
 
-// Whether it is a fault of the input, at which reading stops; the others are faults of the state.
+/// Whether it is a fault of the input, at which reading stops; the others are faults of the state.
 fn is_of_input(fault: &TableFault) -> bool
     ensures { result ≡ of_input (Table 0 fault.now) }
 {
@@ -34,8 +34,8 @@ impl Journal {
         self.entries.as_slice()
     }
 
-    // That there is room is asked and not answered by a `Result`, here and in what calls it: no type holds a length that
-    // grows below a bound, and a listing has no fault for it.
+    /// That there is room is asked and not answered by a `Result`, here and in what calls it: no type holds a length that
+    /// grows below a bound, and a listing has no fault for it.
     pub fn push(&mut self, entry: Entry)
         requires { length (noted self.old) < 1679 }
         ensures { noted self.new ≡ noted self.old ++ entry ∷ [] }
@@ -43,7 +43,7 @@ impl Journal {
         self.entries.push(entry);
     }
 
-    // Notes what the table answers to the record at this place. A fault of the input is handed back instead.
+    /// Notes what the table answers to the record at this place. A fault of the input is handed back instead.
     pub fn note(&mut self, at: usize, answer: Result<(), TableFault>) -> Result<(), FileFault>
         requires { length (noted self.old) < 1679 }
         ensures told { result ≡ onward (with_place at answer) }

@@ -1,4 +1,4 @@
-// What the calls do with the records.
+//! What the calls do with the records.
 ghost use Rattle.std.specs.Prelude.{◌≡◌, ℕ, ◌+◌, ◌<◌, ◌≤◌, Bool, true, ◌++◌, length, take, drop, None, Some, MatchResult};
 ghost use Rattle.std.specs.List.{insert};
 ghost use Rattle.figures.specs.Racks.{line_at};
@@ -27,21 +27,21 @@ impl<'a, K: Arrival + Copy> Records<'a, K> {
         }
     }
 
-    // The streams of the table.
+    /// The streams of the table.
     pub fn streams(&self) -> &[Stream<K>]
         ensures { result.now ≡ table self.now }
     {
         self.table.streams()
     }
 
-    // The record of the line with the number, if there is one.
+    /// The record of the line with the number, if there is one.
     pub fn line(&self, number: u8) -> Option<Line>
         ensures { result ≡ line_at self.now.rack number }
     {
         self.rack.line(number)
     }
 
-    // Whether the stream can be filed, as far as can be told without the checks of its table.
+    /// Whether the stream can be filed, as far as can be told without the checks of its table.
     fn check_newcomer(&self, stream: &Stream<K>) -> Result<(), TableFault>
         ensures { MatchResult result (λ _. unfiled (state_of self.now) stream.now ≡ None) (λ fault. unfiled (state_of self.now) stream.now ≡ Some fault) }
     {
@@ -67,7 +67,7 @@ impl<'a, K: Arrival + Copy> Records<'a, K> {
         Ok(())
     }
 
-    // Files the stream where the table with it passes, else says why not and changes nothing.
+    /// Files the stream where the table with it passes, else says why not and changes nothing.
     pub fn request(&mut self, stream: Stream<K>) -> Result<(), TableFault>
         requires { Sound (state_of self.old) }
         ensures sound { Sound (state_of self.new) }
@@ -79,7 +79,7 @@ impl<'a, K: Arrival + Copy> Records<'a, K> {
         self.table.try_file(&self.rack, at, stream)
     }
 
-    // The place of the stream with the number.
+    /// The place of the stream with the number.
     fn find(&self, number: u16) -> Result<usize, TableFault>
         ensures { Found (state_of self.now) number result }
     {
@@ -89,7 +89,7 @@ impl<'a, K: Arrival + Copy> Records<'a, K> {
         find_number(self.streams(), number).ok_or(TableFault::NoStream(number))
     }
 
-    // Takes the stream out, or says that there is none.
+    /// Takes the stream out, or says that there is none.
     pub fn withdraw(&mut self, number: u16) -> Result<(), TableFault>
         requires { Sound (state_of self.old) }
         ensures sound { Sound (state_of self.new) }
@@ -101,7 +101,7 @@ impl<'a, K: Arrival + Copy> Records<'a, K> {
         Ok(())
     }
 
-    // The check of the table as it stands.
+    /// The check of the table as it stands.
     fn check(&self) -> Result<(), TableFault>
         requires { Sound (state_of self.now) }
         ensures { CheckTold K.Arrival.alpha self.now.rack (table self.now) result }
@@ -109,7 +109,7 @@ impl<'a, K: Arrival + Copy> Records<'a, K> {
         check(&self.rack, self.streams())
     }
 
-    // The line that a call names, or why there is none.
+    /// The line that a call names, or why there is none.
     fn known_line(&self, number: u8) -> Result<Line, TableFault>
         ensures { LineFound (state_of self.now) number result }
     {
@@ -129,7 +129,7 @@ impl<'a, K: Arrival + Copy> Records<'a, K> {
         }
     }
 
-    // Sets the places of a line where the table passes with them, else says why not and changes nothing.
+    /// Sets the places of a line where the table passes with them, else says why not and changes nothing.
     pub fn set_places(&mut self, number: u8, places: u32) -> Result<(), TableFault>
         requires { Sound (state_of self.old) }
         ensures sound { Sound (state_of self.new) }
@@ -149,7 +149,7 @@ impl<'a, K: Arrival + Copy> Records<'a, K> {
         verdict
     }
 
-    // The table, for its figures.
+    /// The table, for its figures.
     pub fn as_table(&self) -> Table<'_, K>
         requires { Sound (state_of self.now) }
         ensures rack { result.rack.now ≡ self.now.rack }
@@ -161,7 +161,7 @@ impl<'a, K: Arrival + Copy> Records<'a, K> {
         table
     }
 
-    // The figures of the stream with the number.
+    /// The figures of the stream with the number.
     pub fn stream_figures(&self, number: u16) -> Result<StreamFigures, TableFault>
         requires { Sound (state_of self.now) }
         ensures { StreamAnswer K.Arrival.alpha (state_of self.now) number result }
@@ -175,7 +175,7 @@ impl<'a, K: Arrival + Copy> Records<'a, K> {
         Ok(figures)
     }
 
-    // The need and the places of the line with the number.
+    /// The need and the places of the line with the number.
     pub fn line_figures(&self, number: u8) -> Result<LineFigures, TableFault>
         requires { Sound (state_of self.now) }
         ensures { LineAnswer K.Arrival.alpha (state_of self.now) number result }
