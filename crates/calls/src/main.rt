@@ -66,7 +66,6 @@ fn print_answer(rt: &impl Print, answer: &Answer) -> io::Result<()> {
 fn print_figures(rt: &impl Print, network: &Network<Kind>) -> io::Result<()> {
     for number in 10..=11u16 {
         if let Ok(told) = network.stream_figures(number) {
-            let told = Told::Stream(told);
             println!(rt; "    stream {number} {told}")?;
         }
     }

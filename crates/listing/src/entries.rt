@@ -92,28 +92,40 @@ impl Entry {
                 q1,
                 q2,
                 total,
-            } => Line::new()
-                .text("stream ")
-                .number(number)
-                .text(" q1 ")
-                .number(q1)
-                .text(" q2 ")
-                .number(q2)
-                .text(" total ")
-                .number(total)
-                .text("\n"),
+            } => stream_line(number, q1, q2, total),
             Entry::Line {
                 number,
                 need,
                 places,
-            } => Line::new()
-                .text("line ")
-                .number(number)
-                .text(" need ")
-                .number(need)
-                .text(" of ")
-                .number(places)
-                .text("\n"),
+            } => need_line(number, need, places),
         }
     }
+}
+
+fn stream_line(number: u16, q1: u32, q2: u32, total: u32) -> Line
+    ensures { result.text.bytes ≡ line_text (Entry.Stream number q1 q2 total) }
+{
+    Line::new()
+        .text("stream ")
+        .number(number)
+        .text(" q1 ")
+        .number(q1)
+        .text(" q2 ")
+        .number(q2)
+        .text(" total ")
+        .number(total)
+        .text("\n")
+}
+
+fn need_line(number: u8, need: u32, places: u32) -> Line
+    ensures { result.text.bytes ≡ line_text (Entry.Line number need places) }
+{
+    Line::new()
+        .text("line ")
+        .number(number)
+        .text(" need ")
+        .number(need)
+        .text(" of ")
+        .number(places)
+        .text("\n")
 }

@@ -64,7 +64,7 @@ mod tests {
         assert_eq!(rt; out, [b'-'; SHORT]);
     }
 
-    /// The lines of refusals, with the largest numbers too; what lies behind the text stays.
+    /// The lines of refusals, with large numbers too; what lies behind the text stays.
     #[test]
     fn refusals(rt: HostRuntime) {
         let entries = [

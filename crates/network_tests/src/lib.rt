@@ -7,6 +7,7 @@ mod tests {
     use arrivals::{Arrival, Bucket, Choice, KindFault, Message};
     use figures::{Line, Side, Stream};
     use network::{Draft, Network};
+    use std::array;
     use std::test::Fail;
 
     type Kind = Choice<Message, Bucket>;
@@ -384,13 +385,11 @@ mod tests {
 
     /// One cell of each in a long time.
     fn many() -> [Stream<Kind>; 66] {
-        let mut streams = [stream(1, 255, 7, 4, 500_000, message(200_000, 1, 1)); 66];
-        for place in 1..66u8 {
-            let stream = &mut streams[usize::from(place)];
-            stream.number = 1 + u16::from(place);
-            stream.priority = 255 - place;
-        }
-        streams
+        array::from_fn(|place| {
+            let number = 1 + place as u16;
+            let priority = 255 - place as u8;
+            stream(number, priority, 7, 4, 500_000, message(200_000, 1, 1))
+        })
     }
 
     /// The records of the lent memory, how many of 66 streams are filed there, and the first that is not.

@@ -20,8 +20,8 @@ pub struct LentTable<'a, K> {
     ghost inside: { len ≤ length memory.now },
 }
 
-/// The index of the stream with the number. Each of these searches is a function of its own, since a proof follows a
-/// chain only to the end of the function that makes it.
+/// The index of the stream with the number. Each of these searches is a function of its own, since a proof doesn't
+/// follow a chain that stands before a `?`.
 pub fn find_number<K>(streams: &[Stream<K>], number: u16) -> Option<usize>
     ensures { result ≡ position (λ s. s.number == number) streams.now }
 {

@@ -49,6 +49,7 @@ impl<'a, K: Arrival + Copy> Network<'a, K> {
     pub fn request(&mut self, stream: Stream<K>) -> Result<(), TableFault>
         ensures told { Requested K.Arrival.alpha (state_of self.old.records) stream result (state_of self.new.records) }
         ensures left { self.new.records.table.memory.now ≡ if_passed result (filed stream (table self.old.records) ++ drop (self.old.records.table.len + 1) self.old.records.table.memory.now) self.old.records.table.memory.now }
+        ensures passing { Passing K.Arrival.alpha self.old.records.rack (table self.old.records) → Passing K.Arrival.alpha self.new.records.rack (table self.new.records) }
     {
         self.records.request(stream)
     }
@@ -57,6 +58,7 @@ impl<'a, K: Arrival + Copy> Network<'a, K> {
     pub fn withdraw(&mut self, number: u16) -> Result<(), TableFault>
         ensures told { Withdrawn K.Arrival.alpha (state_of self.old.records) number result (state_of self.new.records) }
         ensures left { MemoryLeft self.old.records.table.len self.old.records.table.memory.now number result self.new.records.table.memory.now }
+        ensures passing { Passing K.Arrival.alpha self.old.records.rack (table self.old.records) → Passing K.Arrival.alpha self.new.records.rack (table self.new.records) }
     {
         self.records.withdraw(number)
     }
@@ -65,6 +67,7 @@ impl<'a, K: Arrival + Copy> Network<'a, K> {
     pub fn set_places(&mut self, number: u8, places: u32) -> Result<(), TableFault>
         ensures told { PlacesSet K.Arrival.alpha (state_of self.old.records) number places result (state_of self.new.records) }
         ensures left { self.new.records.table.memory.now ≡ self.old.records.table.memory.now }
+        ensures passing { Passing K.Arrival.alpha self.old.records.rack (table self.old.records) → Passing K.Arrival.alpha self.new.records.rack (table self.new.records) }
     {
         self.records.set_places(number, places)
     }
@@ -115,7 +118,7 @@ pub fn carry_all<K: Arrival + Copy>(
     ensures carried { Carried K.Arrival.alpha (state_of network.old.records) (take (length answers.old) calls.now) (take (length calls.now) answers.new) (state_of network.new.records) }
     ensures rest { drop (length calls.now) answers.new ≡ drop (length calls.now) answers.old }
 {
-    // Of what a zip with `answers.iter_mut()` writes, a proof knows nothing once the loop is over.
+    // By index, since of what a zip with `answers.iter_mut()` writes a proof knows nothing once the loop is over.
     let count = calls.len().min(answers.len());
     for (i, call) in calls[..count].iter().enumerate() {
         answers[i] = network.carry(call);
