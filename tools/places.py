@@ -79,12 +79,25 @@ def twins():
     return [(crate, names) for (crate, _), names in sorted(seen.items()) if len(names) > 1]
 
 
+def closing(text):
+    """Where the bracket is closed that was opened before the text."""
+    depth = 1
+    for place, letter in enumerate(text):
+        depth += (letter == "(") - (letter == ")")
+        if depth == 0:
+            return place
+    return len(text)
+
+
 def functions():
-    """Each function's place, parameters and clauses."""
+    """Each function's place, name, parameters and lines of clauses."""
     for path in SOURCES:
         text = path.read_text()
-        for m in re.finditer(r"\bfn (\w+)(?:<[^(]*>)?\(([^)]*)\)([^{]*(?:\{[^{}]*(?:\{[^{}]*\}[^{}]*)*\}[^{;]*)*?)(?=\n\s*\{\n|;)", text):
-            yield path.relative_to(ROOT), m.group(1), m.group(2), m.group(3)
+        for m in re.finditer(r"^ *(?:pub(?:\(\w+\))? )?fn (\w+)(?:<[^(]*>)?\(", text, re.M):
+            head = re.search(r"\n *\{\n| \{\n|;\n", text[m.end():])
+            signature = text[m.end():m.end() + head.start()] if head else ""
+            params = signature[:closing(signature)]
+            yield path.relative_to(ROOT), m.group(1), params, re.findall(r"^ *(?:requires|ensures) (.*)$", signature, re.M)
 
 
 def groups():
@@ -101,11 +114,11 @@ def groups():
 def clauses():
     """Premises and promises that stand in three functions or more of a crate, whatever the value is called."""
     seen = collections.defaultdict(set)
-    for path, name, _, rest in functions():
-        for kind, body in re.findall(r"(requires|ensures)\s*\w*\s*\{((?:[^{}]|\{[^{}]*\})*)\}", rest):
-            for fact in re.split(r"\)\s*×\s*\(", body.strip()):
-                shape = re.sub(r"\b(self|network|journal|rack|draft)\.(old|new|now)\b", "X", fact.strip(" ()"))
-                shape = re.sub(r"\.(records\.)?", ".", shape)
+    for path, name, _, lines_of in functions():
+        for line in lines_of:
+            for fact in re.split(r"\)\s*×\s*\(", re.sub(r"^\w* *\{(.*)\}$", r"\1", line).strip()):
+                shape = re.sub(r"\b(self|network|journal|rack|draft|all|higher|own|load)\.(old|new|now)\b", "X", fact.strip(" ()"))
+                shape = re.sub(r"\b[AB]\.Load\b", "L.Load", shape)
                 if "result" not in shape:
                     seen[(str(path).split("/")[1], shape)].add(name)
     return [(k[0], k[1], sorted(v)) for k, v in sorted(seen.items()) if len(v) >= 3]

@@ -14,7 +14,7 @@ mod public;
 pub use public::{carry_all, carry_out};
 
 /// That the table passes is truncated: its figures are functions of all streams, and what they are of streams that it
-/// lacks is left open. What each call tells has it as it is.
+/// lacks is left open. So the calls that change the table hand it on outright, too (`passing`).
 #[derive(Drop)]
 pub struct Network<'a, K: Arrival> {
     records: Records<'a, K>,

@@ -1,4 +1,5 @@
-//! The figures of a network, as the last entries of a listing.
+//! The figures of a network, as the last entries of a listing. Network and journal stay two parameters: the one is only
+//! read, the other grows, and a struct of both would be two references, and no plainer.
 ghost use Rattle.std.specs.Prelude.{◌≡◌, ◌+◌, ◌≤◌, length};
 ghost use Rattle.figures.specs.Told.{DelaysAre, FiguresAre};
 ghost use Rattle.records.specs.Records.{table, state_of};
