@@ -24,20 +24,17 @@ pub struct Table<'a, K> {
     ghost kept: { table_kept rack.now streams.now ≡ true },
 }
 
-/// Whether the priorities fall from one stream to the next. A loop: with `is_sorted_by` the proof didn't close, since no
-/// priority is read there, so that nothing says that the first is below 256.
+/// Whether the priorities fall from one stream to the next.
 fn priorities_fall<K>(streams: &[Stream<K>]) -> bool
     ensures { result ≡ falls_under 256 streams.now }
 {
-    let mut high: u16 = 256;
-    for stream in streams {
-        let priority = u16::from(stream.priority);
-        if priority >= high {
-            return false;
-        }
-        high = priority;
-    }
-    true
+    streams
+        .iter()
+        .try_fold(256, |high, stream| {
+            let priority = u16::from(stream.priority);
+            (priority < high).then_some(priority)
+        })
+        .is_some()
 }
 
 /// Whether the stream's lines are there, each on its side.

@@ -13,3 +13,13 @@ pub trait Load {
 
     ghost rises: { (l : Self) → Rising (load l) };
 }
+
+impl<L: Load> Load for &L {
+    ghost load = { λ l. L.Load.load l.now };
+
+    ghost rises = { λ l. L.Load.rises l.now };
+
+    fn at(&self, window: u32) -> u32 {
+        (**self).at(window)
+    }
+}

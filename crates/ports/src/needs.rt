@@ -13,15 +13,16 @@ impl<L: Load> Port<L> {
     fn clears(&self) -> Option<u32>
         ensures { Found (Clears self.now.cell_time (L.Load.load self.now.load)) horizon result }
     {
-        let cell = u64::from(self.cell_time);
-        let mut u: u64 = 1;
-        while u <= u64::from(HORIZON) {
-            let cells = u64::from(self.load.at(u as u32));
-            if cells <= (u + 1).saturating_sub(cell) / cell {
-                return Some(u as u32);
+        let mut u: u32 = 1;
+        while u <= HORIZON {
+            let cells = self.load.at(u);
+            if cells <= (u + 1).saturating_sub(self.cell_time) / self.cell_time {
+                return Some(u);
             }
-            // no port with so many cells is clear before they and a dump are sent
-            u = cells * cell + (cell - 1);
+            // no port with so many cells is clear before they and a dump are sent; what saturates is beyond the horizon
+            u = cells
+                .saturating_mul(self.cell_time)
+                .saturating_add(self.cell_time - 1);
         }
         None
     }
@@ -37,15 +38,14 @@ impl<L: Load> Port<L> {
     }
 
     /// The most cells that hold a place up to `until`. During one sending the load only grows, so that it is
-    /// enough to look at the last tick of each. A loop, since the last leap is shorter than the others.
+    /// enough to look at the last tick of each, and at the last of all.
     fn most_held(&self, until: u32) -> u32
         requires { (1 ≤ until) × (until ≤ horizon) }
         ensures { Largest (holding self.now.cell_time (L.Load.load self.now.load)) 1 until result }
     {
-        let mut u = until.min(2 * self.cell_time - 1);
-        let mut most: u32 = self.held(u);
-        while u < until {
-            u = until.min(u + self.cell_time);
+        let mut most = self.held(until);
+        let first = 2 * self.cell_time - 1;
+        for u in (first..until).step_by(self.cell_time as usize) {
             most = most.max(self.held(u));
         }
         most

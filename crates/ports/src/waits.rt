@@ -35,16 +35,18 @@ fn earliest<L: Load>(own: &L, index: u32, low: u32, high: u32) -> u32
 impl<L: Load> Port<L> {
     /// The wait of the cell `index` of a busy period, from `from` on. A loop, since it leaps and doesn't count.
     fn wait(&self, index: u32, from: u32) -> Option<u32>
-        requires { Below (ahead self.now.cell_time (L.Load.load self.now.load) index) horizon from }
+        requires near { index ≤ horizon }
+        requires below { Below (ahead self.now.cell_time (L.Load.load self.now.load) index) horizon from }
         ensures { Wait self.now.cell_time (L.Load.load self.now.load) index result }
     {
-        let cell = u64::from(self.cell_time);
-        let own = cell - 1 + u64::from(index) * cell;
-        let mut w = u64::from(from);
-        while w <= u64::from(HORIZON) {
-            let next = own + cell * u64::from(self.load.at(w as u32 + 1));
+        let own = self.cell_time - 1 + index * self.cell_time;
+        let mut w = from;
+        while w <= HORIZON {
+            // what saturates is beyond the horizon
+            let higher = self.load.at(w + 1).saturating_mul(self.cell_time);
+            let next = own.saturating_add(higher);
             if next == w {
-                return Some(w as u32);
+                return Some(w);
             }
             w = next;
         }
