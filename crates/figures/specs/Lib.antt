@@ -2,7 +2,7 @@ pub mod Limits
 pub mod Racks
 pub mod Tables
 pub mod Faults
-pub mod Text
+pub mod Words
 pub mod Told
 pub mod Unique
 pub mod Worked

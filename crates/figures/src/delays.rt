@@ -4,7 +4,8 @@ ghost use Rattle.ports.specs.Limits.{horizon};
 
 use crate::traffic::MOST_STREAMS;
 
-/// q1 and q2 of the stream at each place of the table.
+/// q1 and q2 of the stream at each place of the table. They are lists by place and not fields of the streams, since the
+/// streams' memory is the caller's, and two lists, since the definitions name the two.
 #[derive(Clone, Copy)]
 pub struct Delays {
     pub q1: [u32; MOST_STREAMS],

@@ -1,6 +1,6 @@
 //! What is printed of a stream's figures, and of the refusal of a table.
 ghost use Rattle.std.specs.Prelude.{Some};
-ghost use Rattle.figures.specs.Text.{figures_text, fault_text};
+ghost use Rattle.figures.specs.Words.{figures_text, fault_text};
 
 use crate::delays::StreamFigures;
 use crate::faults::FigureFault;

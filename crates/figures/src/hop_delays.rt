@@ -27,7 +27,9 @@ impl<'a, K: Arrival> Traffic<'a, K> {
         self.port(hop.line(stream), higher).delay(&own)
     }
 
-    /// The delays of all streams at their ports of this hop, in table order.
+    /// The delays of all streams at their ports of this hop, in table order. The array is filled place by place: of `try_map`
+    /// and `try_from_fn` the library doesn't say that the fault is that of the first stream that has one, which the
+    /// definitions ask for.
     pub fn delays(&self, hop: Hop) -> Result<[u32; MOST_STREAMS], FigureFault>
         ensures told { HopToldFor K.Arrival.alpha self.now.rack.now self.now.streams.now hop self.now.late result }
         ensures near { AllNear result }

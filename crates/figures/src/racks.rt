@@ -44,7 +44,7 @@ impl Hub {
     fn is_kept(&self) -> bool
         ensures { result ≡ hub_kept self.now }
     {
-        self.least <= self.most && self.most <= Hub::LONGEST_SWITCH
+        (self.least..=Hub::LONGEST_SWITCH).contains(&self.most)
     }
 }
 
@@ -56,8 +56,7 @@ impl Line {
     fn is_kept(&self) -> bool
         ensures { result ≡ line_kept (Some self.now) }
     {
-        1 <= self.cell_time
-            && self.cell_time <= Line::LONGEST_CELL_TIME
+        (1..=Line::LONGEST_CELL_TIME).contains(&self.cell_time)
             && self.propagation <= Line::LONGEST_PROPAGATION
     }
 }

@@ -174,7 +174,8 @@ impl<'a, K: Arrival> Table<'a, K> {
         need.map(Some).ok_or(FigureFault::NoNeed(number))
     }
 
-    /// The needs of all lines, by rising number.
+    /// The needs of all lines, by rising number. The array is filled place by place: of `try_map` and `try_from_fn` the library
+    /// doesn't say that the fault is that of the first line that has one, which the definitions ask for.
     pub fn needs(&self, delays: &Delays) -> Result<[Option<u32>; 16], FigureFault>
         ensures { NeedsToldFor K.Arrival.alpha self.now.rack.now self.now.streams.now delays.now.q1 result }
     {

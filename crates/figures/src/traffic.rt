@@ -15,7 +15,8 @@ use ports::Port;
 pub const MOST_STREAMS: usize = 64;
 
 /// The streams of a table in their rack. The cells of the stream at each place come late by what `late` has there;
-/// by None where they come as its kind says.
+/// by None where they come as its kind says. That is a list beside the streams, since their memory is the caller's, and the
+/// definitions name the two lists.
 #[derive(Drop)]
 pub struct Traffic<'a, K> {
     pub rack: &'a Rack,
@@ -51,7 +52,7 @@ impl<'a, K> Traffic<'a, K> {
 
 impl<'a, K: Arrival> Traffic<'a, K> {
     /// What the streams of `group` queue in `window` ticks. A loop: with chains here and in `of_lines`, which proved too,
-    /// `full_table` took 54 ms, and with the loops 29.
+    /// `full_table` took 54 ms, where docs/COST.md has 38 with this kit; with the loops it takes 29.
     pub fn of_group(&self, group: &Group, window: u32) -> u32
         ensures { result ≡ group_load K.Arrival.alpha self.now.late self.now.streams.now group.now (min window longest) }
     {
@@ -82,8 +83,8 @@ impl<'a, K: Arrival> Traffic<'a, K> {
         }
     }
 
-    /// The same for several in-bound lines. A loop: a chain of map and sum proved too, but `full_table` took 41 ms with it,
-    /// and with the loop 29.
+    /// The same for several in-bound lines. A loop: a chain of map and sum proved too, but with it alone `full_table` took
+    /// 41 ms, where docs/COST.md has 38 with this kit; with the loop it takes 29.
     pub fn of_lines(&self, inbound: &[u8], outbound: u8, window: u32) -> u32
         requires { length inbound.now ≤ 16 }
         ensures { result ≡ lines_load K.Arrival.alpha self.now.late self.now.rack.now self.now.streams.now outbound (min window longest) inbound.now }

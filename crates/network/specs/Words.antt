@@ -1,6 +1,6 @@
 -- What `Display` writes of a call, and of what it tells.
 use Rattle.std.specs.Prelude.{ℕ, List, ◌++◌, codes, decimal}
-use Rattle.figures.specs.Text.{figures_text}
+use Rattle.figures.specs.Words.{figures_text}
 use Rattle.records.specs.Words.{line_text}
 use Rattle.network.specs.declared.calls.Call.{Call}
 use Rattle.network.specs.declared.calls.Call.TheVariants as call

@@ -2,10 +2,11 @@
 ghost use Rattle.std.specs.Prelude.{◌≤◌};
 ghost use Rattle.ports.specs.Limits.{longest_cell};
 
-/// What comes to a port: of all its streams, to tell its need, or of those that go before another, to tell the delay of that one.
-/// The port sends a cell in `cell_time` ticks.
+/// A port that sends a cell in `cell_time` ticks, and what comes to it.
 #[derive(Drop)]
 pub struct Port<L> {
+    /// For `need` it is what all streams of the port queue there. For `delay` it is what those streams queue that go before
+    /// the one in question.
     pub load: L,
     pub cell_time: u32,
     ghost cell: { (1 ≤ cell_time) × (cell_time ≤ longest_cell) },
