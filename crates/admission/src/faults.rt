@@ -91,6 +91,7 @@ impl TableFault {
     }
 }
 
+/// The line of a `FigureFault`, which lies in another crate: a function for the one line would be no plainer.
 impl fmt::Display for TableFault {
     ghost output = { λ fault. Some (fault_text fault) };
 

@@ -72,9 +72,11 @@ fn stream(place: u8) -> Stream<Kind> {
 }
 
 fn streams() -> [Stream<Kind>; MOST_STREAMS] {
+    // a place is below 64, so that the cast fits
     array::from_fn(|place| stream(place as u8))
 }
 
+/// In two programs, since each is to be read alone, and a crate for it would be no plainer.
 fn print_streams(
     rt: &impl Print,
     table: &Table<Kind>,

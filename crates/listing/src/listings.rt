@@ -28,7 +28,8 @@ fn fits(entries: &[Entry], bytes: usize) -> bool
         .is_some()
 }
 
-/// Writes the lines one after the other, from the start of the slice on, and says how many bytes that were.
+/// Writes the lines one after the other, from the start of the slice on, and says how many bytes that were. A loop that
+/// keeps the place, since of what a closure writes behind it a proof knows nothing.
 fn write_lines(entries: &[Entry], out: &mut [u8]) -> usize
     requires { length (listing_text entries.now) ≤ length out.old }
     ensures count { result ≡ length (listing_text entries.now) }

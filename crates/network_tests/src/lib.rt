@@ -385,6 +385,7 @@ mod tests {
 
     /// One cell of each in a long time.
     fn many() -> [Stream<Kind>; 66] {
+        // a place is below 66, so that both casts fit
         array::from_fn(|place| {
             let number = 1 + place as u16;
             let priority = 255 - place as u8;

@@ -47,7 +47,8 @@ fn finish(
     Ok(())
 }
 
-/// Reads the file to its end, or to a fault of the input.
+/// Reads the file to its end, or to a fault of the input. File and memory are what the caller lends, handed on as they
+/// came, so a struct of the two would be no plainer.
 fn read_plan(
     bytes: &[u8],
     memory: &mut [Stream<Kind>],

@@ -9,7 +9,8 @@ use crate::stages::{read_line, take_call};
 use network::{Draft, Network};
 use wire::{FileFault, Kind, Walker};
 
-/// Takes the lines, and leaves the walker at the record that closes the draft, or at the end of the file.
+/// Takes the lines, and leaves the walker at the record that closes the draft, or at the end of the file. No `for`: the
+/// walker stays at a record that is cut short, so that its records have no end.
 pub fn read_lines(
     walker: &mut Walker,
     draft: &mut Draft,

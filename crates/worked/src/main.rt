@@ -56,6 +56,7 @@ fn streams() -> [Stream<Kind>; 2] {
     ]
 }
 
+/// In two programs, since each is to be read alone, and a crate for it would be no plainer.
 fn print_streams(
     rt: &impl Print,
     table: &Table<Kind>,
