@@ -12,7 +12,8 @@ pub const LATEST_DEADLINE: u32 = 500_000;
 
 pub const MOST_PLACES: u32 = 4_000;
 
-/// Whether each field of the stream keeps its limits; its kind keeps its own.
+/// Whether each field of the stream keeps its limits; its kind keeps its own. A priority has a lower limit alone: the upper
+/// one is that of its type.
 pub fn has_fields_within<K>(stream: &Stream<K>) -> bool
     ensures { result ≡ fields_within stream.now }
 {

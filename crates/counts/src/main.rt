@@ -18,6 +18,7 @@ fn print_made(rt: &impl Print, name: &str, made: Result<Message, KindFault>) -> 
     match made {
         Ok(_) => println!(rt; "{name}: accepted"),
         Err(fault) => {
+            // the number alone: a kind's fault names nobody
             let number = fault.number();
             println!(rt; "{name}: refused with {number}")
         }

@@ -27,6 +27,7 @@ fn main(rt: HostRuntime) -> io::Result<()> {
     match one_line(&mut memory) {
         Ok(told) => println!(rt; "line 1 {told}"),
         Err(fault) => {
+            // the number alone, as this program always printed it
             let number = fault.number();
             println!(rt; "no {number}")
         }
