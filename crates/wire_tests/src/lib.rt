@@ -13,22 +13,19 @@ mod tests {
         Placed { at: 1, bytes }
     }
 
-    /// The number of the refusal, or 0.
-    fn refusal(bytes: &[u8]) -> u8 {
-        match record(bytes).read() {
-            Ok(_) => 0,
-            Err(fault) => fault.number(),
-        }
+    /// The number of the refusal, if it is refused.
+    fn refusal(bytes: &[u8]) -> Option<u8> {
+        record(bytes).read().err().map(|fault| fault.number())
     }
 
     #[test]
     fn lengths_and_codes(rt: HostRuntime) -> Result<(), Fail> {
-        assert_eq!(rt; refusal(&[]), 4);
-        assert_eq!(rt; refusal(&[0, 0, 1]), 4);
-        assert_eq!(rt; refusal(&[7, 0, 1]), 4);
-        assert_eq!(rt; refusal(&[5, 0]), 4);
-        assert_eq!(rt; refusal(&[5, 0, 1]), 0);
-        assert_eq!(rt; refusal(&[5, 0, 1, 0]), 4);
+        assert_eq!(rt; refusal(&[]), Some(4));
+        assert_eq!(rt; refusal(&[0, 0, 1]), Some(4));
+        assert_eq!(rt; refusal(&[7, 0, 1]), Some(4));
+        assert_eq!(rt; refusal(&[5, 0]), Some(4));
+        assert_eq!(rt; refusal(&[5, 0, 1]), None);
+        assert_eq!(rt; refusal(&[5, 0, 1, 0]), Some(4));
         assert_eq!(rt; record(&[6, 1, 0, 9]).shape()?, Shape::Places);
         Ok(())
     }
@@ -52,7 +49,7 @@ mod tests {
             record(&[2, 9, 1, 3, 2, 1, 4, 2, 5]).read()?,
             Record::Line { number: 9, line }
         );
-        assert_eq!(rt; refusal(&[2, 9, 2, 3, 2, 1, 4, 2, 5]), 6);
+        assert_eq!(rt; refusal(&[2, 9, 2, 3, 2, 1, 4, 2, 5]), Some(6));
         Ok(())
     }
 
@@ -83,9 +80,9 @@ mod tests {
         let mut message = [
             3, 1, 2, 5, 1, 2, 0, 0, 1, 4, 0, 0, 0, 20, 0, 0, 1, 0, 0, 3, 0, 0, 0, 7,
         ];
-        assert_eq!(rt; refusal(&message), 7);
+        assert_eq!(rt; refusal(&message), Some(7));
         message[4] = 17;
-        assert_eq!(rt; refusal(&message), 6);
+        assert_eq!(rt; refusal(&message), Some(6));
     }
 
     #[test]
