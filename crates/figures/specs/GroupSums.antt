@@ -7,6 +7,7 @@ use Rattle.arrivals.specs.Limits.{longest, most}
 use Rattle.arrivals.specs.Quotients.{windowed_rises}
 use Rattle.figures.specs.declared.groups.Group.{Group}
 use Rattle.figures.specs.declared.streams.Stream.{Stream}
+use Rattle.arrivals.specs.contracts.arrivals.Arrival.TheBound.{All}
 use Rattle.ports.specs.Loads.{Rising, Lawful}
 use Rattle.figures.specs.Sums.{in_group, seen, group_from, group_load}
 
@@ -24,8 +25,8 @@ module _ {K : Type 0} (α : K → ℕ → ℕ) (late : List (Option ℕ)) (group
   group_all es i h = ap (group_from α late group w i) (drop_all i es h)
 
 -- the laws of a kind, together
-pub lawful : {K : Type 0} {α : K → ℕ → ℕ} → ((k : K) → α k 0 ≡ 0) → ((k : K) → 1 ≤ α k 1) → ((k : K) → Rising (α k)) → ((k : K) (w : ℕ) → w ≤ longest → α k w ≤ most) → Lawful α
-lawful none some rises small = record { none = none; some = some; rises = rises; small = small }
+pub lawful : {K : _} {a : _} {d : _} → All K a d → Lawful a.alpha
+lawful m = record { none = m.none; some = m.some; rises = m.rises; small = m.small }
 
 module _ {K : Type 0} (α : K → ℕ → ℕ) (lawful : Lawful α) where
   pub seen_small : (late : Option ℕ) (k : K) (w : ℕ) → w ≤ longest → seen α late k w ≤ most

@@ -20,7 +20,7 @@ pub struct Source<'a, K> {
 impl<'a, K: Arrival> Load for Source<'a, K> {
     ghost load = { λ l. seen K.Arrival.alpha l.late l.kind.now };
 
-    ghost rises = { λ l. seen_rises K.Arrival.alpha (lawful K.Arrival.none K.Arrival.some K.Arrival.rises K.Arrival.small) l.late l.kind.now };
+    ghost rises = { λ l. seen_rises K.Arrival.alpha (lawful K.Arrival) l.late l.kind.now };
 
     fn at(&self, window: u32) -> u32 {
         seen_count(self.kind, self.late, window)
@@ -37,7 +37,7 @@ pub struct GroupLoad<'a, 'b, K> {
 impl<'a, 'b, K: Arrival> Load for GroupLoad<'a, 'b, K> {
     ghost load = { λ l. group_load K.Arrival.alpha l.traffic.now.late l.traffic.now.streams.now l.group };
 
-    ghost rises = { λ l. group_rises K.Arrival.alpha (lawful K.Arrival.none K.Arrival.some K.Arrival.rises K.Arrival.small) l.traffic.now.late l.traffic.now.streams.now l.group };
+    ghost rises = { λ l. group_rises K.Arrival.alpha (lawful K.Arrival) l.traffic.now.late l.traffic.now.streams.now l.group };
 
     fn at(&self, window: u32) -> u32 {
         self.traffic.of_group(&self.group, window)
@@ -54,7 +54,7 @@ pub struct HubLoad<'a, 'b, K> {
 impl<'a, 'b, K: Arrival> Load for HubLoad<'a, 'b, K> {
     ghost load = { λ l. hub_sum K.Arrival.alpha l.traffic.now.late l.traffic.now.rack.now l.traffic.now.streams.now l.outbound };
 
-    ghost rises = { λ l. hub_sum_rises K.Arrival.alpha (lawful K.Arrival.none K.Arrival.some K.Arrival.rises K.Arrival.small) l.traffic.now.late l.traffic.now.rack.now l.traffic.now.kept l.traffic.now.streams.now l.outbound };
+    ghost rises = { λ l. hub_sum_rises K.Arrival.alpha (lawful K.Arrival) l.traffic.now.late l.traffic.now.rack.now l.traffic.now.kept l.traffic.now.streams.now l.outbound };
 
     fn at(&self, window: u32) -> u32 {
         self.traffic.of_lines(&LINE_NUMBERS, self.outbound, window)
