@@ -16,6 +16,7 @@ impl fmt::Display for StreamFigures {
     }
 }
 
+/// The line of a `TableFault` too, which lies in another crate: a function for the one line would be no plainer.
 impl fmt::Display for FigureFault {
     ghost output = { λ fault. Some (fault_text fault) };
 

@@ -41,7 +41,8 @@ pub struct Rack {
 impl Hub {
     pub const LONGEST_SWITCH: u32 = 1_000;
 
-    fn is_kept(&self) -> bool
+    /// Whether the switch times keep their limits.
+    pub fn is_kept(&self) -> bool
         ensures { result ≡ hub_kept self.now }
     {
         (self.least..=Hub::LONGEST_SWITCH).contains(&self.most)
@@ -53,7 +54,8 @@ impl Line {
 
     pub const LONGEST_PROPAGATION: u32 = 10_000;
 
-    fn is_kept(&self) -> bool
+    /// Whether the line's times keep their limits.
+    pub fn is_kept(&self) -> bool
         ensures { result ≡ line_kept (Some self.now) }
     {
         (1..=Line::LONGEST_CELL_TIME).contains(&self.cell_time)

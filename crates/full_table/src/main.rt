@@ -72,7 +72,7 @@ fn stream(place: u8) -> Stream<Kind> {
 }
 
 fn streams() -> [Stream<Kind>; MOST_STREAMS] {
-    // a place is below 64, so that the cast fits
+    // a place is below 64, so that the cast fits, which the check shows; a `try_from` would want an `unwrap`
     array::from_fn(|place| stream(place as u8))
 }
 

@@ -1,5 +1,6 @@
 -- What a call leaves: a state that keeps what every state keeps, and whose table passes where it passed before.
 use Rattle.std.proofs.Common.{◌≡◌, ℕ, zero, suc, ◌<◌, ◌≤◌, List, [], ◌∷◌, ◌++◌, length, take, drop, Some, None, Ok, Err, Option, Result, sym, refl, ap, ◌∙◌, subst, arith}
+use Rattle.arrivals.specs.contracts.arrivals.Arrival.TheBound.{Met}
 use Rattle.ports.specs.Loads.{Lawful}
 use Rattle.figures.specs.declared.racks.Rack.{Rack}
 use Rattle.figures.specs.declared.streams.Stream.{Stream}
@@ -15,6 +16,10 @@ use Rattle.records.proofs.Refusals.{filed_sound, placed_sound, unknown_stream_no
 use Rattle.network.specs.declared.calls.Call.{Call}
 use Rattle.network.specs.declared.calls.Call.TheVariants as call
 use Rattle.network.specs.States.{Answer, Answered, Carried}
+
+-- the laws that a bound hands over, together
+pub laws : {M : _} {𝓤 : _} {𝓛 : _} {𝓜 : _} {𝓡 : _} {e : _} {K : _} {a : _} {d : _} → Met {M = M} {𝓤 = 𝓤} 𝓛 𝓜 𝓡 e K a d → Lawful a.alpha
+laws m = record { none = m.none; some = m.some; rises = m.rises; small = m.small }
 
 split_at : {X : Type 0} (i : ℕ) (xs : List X) → i < length xs → (x : X) × (xs ≡ take i xs ++ x ∷ drop (suc i) xs)
 split_at zero [] less = absurd (omega arith)

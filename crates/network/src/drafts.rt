@@ -20,9 +20,7 @@ pub struct Draft {
 fn has_fields_within(line: &Line) -> bool
     ensures { result ≡ line_within line.now }
 {
-    (1..=Line::LONGEST_CELL_TIME).contains(&line.cell_time)
-        && line.propagation <= Line::LONGEST_PROPAGATION
-        && (1..=MOST_PLACES).contains(&line.places)
+    line.is_kept() && (1..=MOST_PLACES).contains(&line.places)
 }
 
 impl Draft {
@@ -30,15 +28,13 @@ impl Draft {
     pub fn new(least: u32, most: u32) -> Result<Draft, TableFault>
         ensures { MatchResult result (λ d. (d.rack ≡ bare_rack least most) × (hub_kept (record { least = least; most = most }) ≡ true)) (λ e. (e ≡ OutsideLimits) × (hub_kept (record { least = least; most = most }) ≡ false)) }
     {
-        if least > most || most > Hub::LONGEST_SWITCH {
+        let hub = Hub { least, most };
+        if !hub.is_kept() {
             return Err(TableFault::OutsideLimits);
         }
-        let lines: [Option<Line>; 16] = [None; 16];
+        let lines = [None; 16];
         Ok(Draft {
-            rack: Rack {
-                hub: Hub { least, most },
-                lines,
-            },
+            rack: Rack { hub, lines },
         })
     }
 

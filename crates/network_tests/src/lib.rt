@@ -253,6 +253,7 @@ mod tests {
         let mut larger = [stream_10(); 3];
         assert_eq!(rt; filed(&mut larger, &free), Some((2, Err((27, 12)))));
     }
+
     /// The newcomer, why it is refused, and whom the refusal names.
     #[test]
     fn alone(rt: HostRuntime) {
@@ -385,7 +386,7 @@ mod tests {
 
     /// One cell of each in a long time.
     fn many() -> [Stream<Kind>; 66] {
-        // a place is below 66, so that both casts fit
+        // a place is below 66, so that both casts fit, which the check shows; a `try_from` would want an `unwrap`
         array::from_fn(|place| {
             let number = 1 + place as u16;
             let priority = 255 - place as u8;

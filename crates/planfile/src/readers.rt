@@ -30,7 +30,7 @@ pub fn read_lines(
     Ok(())
 }
 
-/// Takes the calls, up to the end of the file. Network and journal stay two parameters here and in what is called: the
+/// Takes the calls, up to the end of the file, by a `while let` as above. Network and journal stay two parameters here and in what is called: the
 /// journal outlives a fault and the network does not, so a struct of both would be two references, and no plainer.
 pub fn run(
     walker: Walker,

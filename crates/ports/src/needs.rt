@@ -45,7 +45,7 @@ impl<L: Load> Port<L> {
     {
         let mut most = self.held(until);
         let first = 2 * self.cell_time - 1;
-        // a cell time is at most 1,000, so that the cast fits
+        // a cell time is at most 1,000, so that the cast fits, which the check shows; a `try_from` would want an `unwrap`
         for u in (first..until).step_by(self.cell_time as usize) {
             most = most.max(self.held(u));
         }

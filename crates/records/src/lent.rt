@@ -11,8 +11,8 @@ use admission::{TableFault, check};
 use arrivals::Arrival;
 use figures::{MOST_STREAMS, Rack, Stream};
 
-/// The first `len` records of the memory are the table. The caller lends the memory, since no crate here has a
-/// heap; so the length stands beside it.
+/// The first `len` records of the memory are the table. The caller lends the memory, since no library crate
+/// here has a heap; so the length stands beside it.
 #[derive(Drop)]
 pub struct LentTable<'a, K> {
     memory: &'a mut [Stream<K>],
@@ -20,8 +20,8 @@ pub struct LentTable<'a, K> {
     ghost inside: { len ≤ length memory.now },
 }
 
-/// The index of the stream with the number. Each of these searches is a function of its own, since a proof doesn't
-/// follow a chain that stands before a `?`.
+/// The index of the stream with the number. This search and the next are functions of their own: with the chains in place
+/// at their callers, which was tried, the goals there stayed open.
 pub fn find_number<K>(streams: &[Stream<K>], number: u16) -> Option<usize>
     ensures { result ≡ position (λ s. s.number == number) streams.now }
 {
