@@ -9,8 +9,9 @@ use crate::ports::Port;
 use crate::waits::HORIZON;
 
 impl<L: Load> Port<L> {
-    /// The least number of ticks after which the port is clear again. A loop, since it leaps and doesn't count. In u64: with
-    /// u32 and sums that saturate, which proved too, `full_table` took 38 ms, and 30 so.
+    /// The least number of ticks after which the port is clear again. A loop, since it leaps and doesn't count. In u64, since
+    /// the sums may be above u32; up to the horizon the casts fit. With u32 and sums that saturate, which proved too,
+    /// `full_table` took 38.3 ms, where docs/COST.md has 38 with this kit; so it takes 30.
     fn clears(&self) -> Option<u32>
         ensures { Found (Clears self.now.cell_time (L.Load.load self.now.load)) horizon result }
     {
@@ -39,7 +40,7 @@ impl<L: Load> Port<L> {
 
     /// The most cells that hold a place up to `until`. During one sending the load only grows, so that it is
     /// enough to look at the last tick of each. A `while`: with a `for` over a `step_by`, which proved too, `full_table` took
-    /// 39 ms, where docs/COST.md has 38 with this kit; so it takes 30.
+    /// 39.2 ms, where docs/COST.md has 38 with this kit; so it takes 30.
     fn most_held(&self, until: u32) -> u32
         requires { (1 ≤ until) × (until ≤ horizon) }
         ensures { Largest (holding self.now.cell_time (L.Load.load self.now.load)) 1 until result }
