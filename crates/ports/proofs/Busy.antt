@@ -1,5 +1,5 @@
 -- A port's busy period: when it is clear again, and where most cells hold a place.
-use Rattle.std.proofs.Common.{◌≡◌, ℕ, ◌+◌, ◌-◌, ◌*◌, ◌/◌, ◌<◌, ◌≤◌, max, ◌⊎◌, ap, subst, refl, inl, inr, mul-le-mul_right, add-mul, one-mul, div-mul-le_self, arith}
+use Rattle.std.proofs.Common.{◌≡◌, ℕ, ◌+◌, ◌-◌, ◌*◌, ◌/◌, ◌<◌, ◌≤◌, min, max, ◌⊎◌, ap, subst, inl, inr, mul-le-mul_right, add-mul, one-mul, div-mul-le_self, arith}
 use Rattle.std.proofs.lemmas.Bool.{cases_lt}
 use Rattle.std.proofs.lemmas.Nat.{le-div, div_below, div-mul-add}
 use Rattle.arrivals.specs.Least.{Largest}
@@ -38,82 +38,71 @@ module _ (C : ℕ) (pos : 1 ≤ C) where
       let split : (m - 1) * C + (v - m * C) ≡ v - C = omega (arith, add-mul (m - 1) 1 C, one-mul C, ap (λ x. x * C) {x = m - 1 + 1} {y = m} (omega arith)) in
       subst (λ x. x / C ≡ m - 1) split (div-mul-add (m - 1) C (v - m * C) (omega arith))
 
--- the most that is held at `until` and before the sending of which u is the last tick
+-- the most that is held up to u, where u is the last tick of a sending, or the last tick of all
 pub record Scanned (C : ℕ) (G : ℕ → ℕ) (until u most : ℕ) : Type 0 where
-  pub block : (m : ℕ) × (2 ≤ m) × (u + 1 ≡ m * C)
-  pub last : holding C G until ≤ most
-  pub bounds : (v : ℕ) → 1 ≤ v → 2 * C ≤ u → v + C ≤ u → holding C G v ≤ most
-  pub at : ℕ
-  pub from : 1 ≤ at
-  pub to : at ≤ until
-  pub met : holding C G at ≡ most
+  pub low : 1 ≤ u
+  pub high : u ≤ until
+  pub block : (u ≡ until) ⊎ ((m : ℕ) × (u + 1 ≡ m * C))
+  pub worst : Largest (holding C G) 1 u most
 
 module _ (C : ℕ) (pos : 1 ≤ C) (G : ℕ → ℕ) (rising : Rising G) (until : ℕ) (some : 1 ≤ until) (near : until ≤ horizon) where
-  pub scanned_first : (u : ℕ) → u + 1 ≡ 2 * C → Scanned C G until u (holding C G until)
+  pub scanned_first : (u : ℕ) → u ≡ min until (2 * C - 1) → Scanned C G until u (holding C G u)
   scanned_first u e = record {
-    block = (2, omega arith, e);
-    last = omega arith;
-    bounds = λ v low after to. absurd (omega arith);
-    at = until;
-    from = some;
-    to = omega arith;
-    met = refl;
+    low = omega arith;
+    high = omega arith;
+    block = elim (cases_lt (2 * C - 1) until) [ inl less ↦ inr (2, omega arith) | inr le ↦ inl (omega arith) ];
+    worst = record {
+      bounds = λ v from to. omega (arith, rising v u to (omega arith), no_quotient C pos (u - C) (omega arith));
+      at = u;
+      from = omega arith;
+      to = omega arith;
+      met = omega arith;
+    };
   }
 
-  module _ {u most : ℕ} (scanned : Scanned C G until u most) where
-    -- within one sending no tick holds more than a later one
-    later_most : (v w : ℕ) → v ≤ w → w ≤ u → w ≤ until → (u < 2 * C) ⊎ (u < v + C) → holding C G v ≤ holding C G w
-    later_most v w le in_time by first_or_last =
-        let grows = rising v w le (omega arith) in
-        elim first_or_last [
-          | inl first ↦
-              omega (arith, grows, no_quotient C pos (v - C) (omega arith), no_quotient C pos (w - C) (omega arith))
-          | inr same ↦
-              let m = scanned.block.0 in
-              let split : (m - 1) * C + C ≡ m * C = omega (arith, scanned.block.1, add-mul (m - 1) 1 C, one-mul C, ap (λ x. x * C) {x = m - 1 + 1} {y = m} (omega (arith, scanned.block.1))) in
-              let of = scanned.block.2 in
-              omega (arith, grows, same_quotient C pos (m - 1) v (omega (arith, scanned.block.1)) (omega arith) (omega arith), same_quotient C pos (m - 1) w (omega (arith, scanned.block.1)) (omega arith) (omega arith))
+  module _ (u most : ℕ) (less : u < until) (scanned : Scanned C G until u most) (n : ℕ) (next : n ≡ min until (u + C)) where
+    ends : (m : ℕ) × (u + 1 ≡ m * C)
+    ends = elim scanned.block [ inl last ↦ absurd (omega arith) | inr b ↦ b ]
+
+    some_sent : 1 ≤ ends.0
+    some_sent =
+        elim (cases_lt 0 ends.0) [
+          | inl more ↦ more
+          | inr none ↦ absurd (omega (arith, ends.1, ap (λ x. x * C) {x = ends.0} {y = 0} (omega arith)))
         ]
 
-    all_most : (w : ℕ) → w ≤ u → w ≤ until → (v : ℕ) → 1 ≤ v → v ≤ w → holding C G v ≤ max most (holding C G w)
-    all_most w in_time by v low le =
-        elim (cases_lt u (2 * C)) [
-          | inl first ↦ omega (arith, later_most v w le in_time by (inl first))
-          | inr more ↦
-              elim (cases_lt u (v + C)) [
-                | inl same ↦ omega (arith, later_most v w le in_time by (inr same))
-                | inr before ↦ omega (arith, scanned.bounds v low more before)
-              ]
+    level : (v : ℕ) → u < v → v ≤ n → (v - C) / C ≡ ends.0 - 1
+    level v after to = same_quotient C pos ends.0 v some_sent (omega (arith, ends.1)) (omega (arith, ends.1))
+
+    here_most : (v : ℕ) → u < v → v ≤ n → holding C G v ≤ holding C G n
+    here_most v after to =
+        omega (arith, rising v n to (omega arith), level v after to, level n (omega arith) (omega arith))
+
+    met_more : (v : ℕ) × (1 ≤ v) × (v ≤ n) × (holding C G v ≡ max most (holding C G n))
+    met_more =
+        elim (cases_lt most (holding C G n)) [
+          | inl more ↦ (n, omega arith, omega arith, omega arith)
+          | inr le ↦
+              (scanned.worst.at, scanned.worst.from, omega (arith, scanned.worst.to), omega (arith, scanned.worst.met))
         ]
 
-    met_more : u < until → (v : ℕ) × (1 ≤ v) × (v ≤ until) × (holding C G v ≡ max most (holding C G u))
-    met_more less =
-        elim (cases_lt most (holding C G u)) [
-          | inl more ↦
-              let high = mul-le-mul_right {m = 2} {n = scanned.block.0} C scanned.block.1 in
-              (u, omega (arith, scanned.block.2), omega arith, omega arith)
-          | inr le ↦ (scanned.at, scanned.from, scanned.to, omega (arith, scanned.met))
-        ]
-
-    pub scanned_next : u < until → Scanned C G until (u + C) (max most (holding C G u))
-    scanned_next less =
-        let m = scanned.block.0 in
-        let met = met_more less in
-        record {
-          block = (m + 1, omega (arith, scanned.block.1), omega (arith, scanned.block.2, add-mul m 1 C, one-mul C));
-          last = omega (arith, scanned.last);
-          bounds = λ v low after to. all_most u (omega arith) (omega arith) v low (omega arith);
-          at = met.0;
-          from = met.1;
-          to = met.2;
-          met = met.3;
-        }
-
-    pub scanned_all : until ≤ u → Largest (holding C G) 1 until most
-    scanned_all last = record {
-      bounds = λ v low to. omega (arith, all_most until last (omega arith) v low to, scanned.last);
-      at = scanned.at;
-      from = scanned.from;
-      to = scanned.to;
-      met = scanned.met;
+    pub scanned_next : Scanned C G until n (max most (holding C G n))
+    scanned_next = record {
+      low = omega arith;
+      high = omega arith;
+      block = elim (cases_lt (u + C) until) [
+        | inl more ↦ inr (ends.0 + 1, omega (arith, ends.1, add-mul ends.0 1 C, one-mul C))
+        | inr le ↦ inl (omega arith)
+      ];
+      worst = record {
+        bounds = λ v from to.
+            elim (cases_lt u v) [
+              | inl after ↦ omega (arith, here_most v after to)
+              | inr before ↦ omega (arith, scanned.worst.bounds v from before)
+            ];
+        at = met_more.0;
+        from = met_more.1;
+        to = met_more.2;
+        met = met_more.3;
+      };
     }

@@ -9,20 +9,21 @@ use crate::ports::Port;
 use crate::waits::HORIZON;
 
 impl<L: Load> Port<L> {
-    /// The least number of ticks after which the port is clear again. A loop, since it leaps and doesn't count.
+    /// The least number of ticks after which the port is clear again. A loop, since it leaps and doesn't count. In u64, since
+    /// the sums may be above u32; up to the horizon the casts fit. With u32 and sums that saturate, which proved too,
+    /// `full_table` took 38.3 ms, where docs/COST.md has 38 with this kit; so it takes 30.
     fn clears(&self) -> Option<u32>
         ensures { Found (Clears self.now.cell_time (L.Load.load self.now.load)) horizon result }
     {
-        let mut u: u32 = 1;
-        while u <= HORIZON {
-            let cells = self.load.at(u);
-            if cells <= (u + 1).saturating_sub(self.cell_time) / self.cell_time {
-                return Some(u);
+        let cell = u64::from(self.cell_time);
+        let mut u: u64 = 1;
+        while u <= u64::from(HORIZON) {
+            let cells = u64::from(self.load.at(u as u32));
+            if cells <= (u + 1).saturating_sub(cell) / cell {
+                return Some(u as u32);
             }
-            // no port with so many cells is clear before they and a dump are sent; what saturates is beyond the horizon
-            u = cells
-                .saturating_mul(self.cell_time)
-                .saturating_add(self.cell_time - 1);
+            // no port with so many cells is clear before they and a dump are sent
+            u = cells * cell + (cell - 1);
         }
         None
     }
@@ -38,15 +39,16 @@ impl<L: Load> Port<L> {
     }
 
     /// The most cells that hold a place up to `until`. During one sending the load only grows, so that it is
-    /// enough to look at the last tick of each, and at the last of all.
+    /// enough to look at the last tick of each. A `while`: with a `for` over a `step_by`, which proved too, `full_table` took
+    /// 39.2 ms, where docs/COST.md has 38 with this kit; so it takes 30.
     fn most_held(&self, until: u32) -> u32
         requires { (1 ≤ until) × (until ≤ horizon) }
         ensures { Largest (holding self.now.cell_time (L.Load.load self.now.load)) 1 until result }
     {
-        let mut most = self.held(until);
-        let first = 2 * self.cell_time - 1;
-        // a cell time is at most 1,000, so that the cast fits, which the check shows; a `try_from` would want an `unwrap`
-        for u in (first..until).step_by(self.cell_time as usize) {
+        let mut u = until.min(2 * self.cell_time - 1);
+        let mut most: u32 = self.held(u);
+        while u < until {
+            u = until.min(u + self.cell_time);
             most = most.max(self.held(u));
         }
         most

@@ -1,27 +1,18 @@
-use Rattle.std.proofs.Common.{arith}
-use Rattle.ports.proofs.Busy.{scanned_first, scanned_next, scanned_all}
+use Rattle.std.proofs.Common.{max, sym, ap, ◌∙◌, subst}
+use Rattle.ports.proofs.Busy.{Scanned, scanned_first, scanned_next}
 use Rattle.ports.proofs.ports.Port.most_held.Goals as goal
 
 pub loop-u-init : goal.loop-u-init
 loop-u-init g c =
-    let port = c.args.self.now in
-    rw c.held-most.ensures
-    (scanned_first port.cell_time port.cell.0 (g.L.Load.load port.load) (g.met.L.Load.rises port.load) c.args.until c.requires.0 c.requires.1 _ (omega (arith, port.cell)))
+    let C = c.args.self.now.cell_time in
+    let G = g.L.Load.load c.args.self.now.load in
+    subst (λ n. Scanned C G c.args.until c.min-u.result n) (sym c.held-most.ensures)
+    (scanned_first C c.args.self.now.cell.0 G (g.met.L.Load.rises c.args.self.now.load) c.args.until c.requires.0 c.requires.1 c.min-u.result c.min-u.ensures)
 
 pub loop-u-preserved : goal.loop-u-preserved
 loop-u-preserved g c =
-    let port = c.args.self.now in
-    rw (c.max-most.ensures, c.held.ensures)
-    (scanned_next port.cell_time port.cell.0 (g.L.Load.load port.load) (g.met.L.Load.rises port.load) c.args.until c.requires.0 c.requires.1 c.loop-u.invariant c.loop-u-test.true)
-
-pub returns : goal.returns
-returns g c =
-    let port = c.args.self.now in
-    scanned_all port.cell_time port.cell.0 (g.L.Load.load port.load) (g.met.L.Load.rises port.load) c.args.until c.requires.0 c.requires.1 c.loop-u.invariant c.loop-u-test.false
-
--- where the next step would be beyond `until`
-pub returns-2 : goal.returns-2
-returns-2 g c =
-    let port = c.args.self.now in
-    rw (c.max-most.ensures, c.held.ensures)
-    (scanned_all port.cell_time port.cell.0 (g.L.Load.load port.load) (g.met.L.Load.rises port.load) c.args.until c.requires.0 c.requires.1 (scanned_next port.cell_time port.cell.0 (g.L.Load.load port.load) (g.met.L.Load.rises port.load) c.args.until c.requires.0 c.requires.1 c.loop-u.invariant c.loop-u-test.true) (omega arith))
+    let C = c.args.self.now.cell_time in
+    let G = g.L.Load.load c.args.self.now.load in
+    let n = c.min-u-in-loop-u.result in
+    subst (λ x. Scanned C G c.args.until n x) (sym (c.max-most.ensures ∙ ap (max c.loop-u.most) c.held.ensures))
+    (scanned_next C c.args.self.now.cell.0 G (g.met.L.Load.rises c.args.self.now.load) c.args.until c.requires.0 c.requires.1 c.loop-u.u c.loop-u.most c.loop-u-test.true c.loop-u.invariant n c.min-u-in-loop-u.ensures)
