@@ -1,7 +1,6 @@
 -- A list of calls, one call after another.
-use Rattle.std.proofs.Common.{◌≡◌, ℕ, ◌+◌, ◌<◌, min, List, [], ◌∷◌, ◌++◌, length, get_or, take, drop, set, sym, refl, ap, ◌∙◌, subst, subst₂, inl, inr, arith}
-use Rattle.std.proofs.lemmas.List.{take_more, take_more_set, take_all, drop_all, drop-drop, drop-set-lt, length-set}
-use Rattle.std.proofs.lemmas.Bool.{cases_lt}
+use Rattle.std.proofs.Common.{◌≡◌, ℕ, ◌+◌, ◌<◌, List, [], ◌∷◌, ◌++◌, length, get_or, take, drop, set, sym, refl, ap, ◌∙◌, subst, subst₂, arith}
+use Rattle.std.proofs.lemmas.List.{take_more, take_more_set, drop-drop, drop-set-lt, length-set}
 use Rattle.records.specs.States.{State}
 use Rattle.network.specs.declared.calls.Call.{Call}
 use Rattle.network.specs.States.{Answer, Answered, Carried}
@@ -31,25 +30,3 @@ module _ {K : Type 0} (α : K → ℕ → ℕ) where
     where
       drop_one : (xs : List Answer) → drop (i + 1) xs ≡ drop 1 (drop i xs)
       drop_one xs = ap (λ n. drop n xs) (omega arith) ∙ sym (drop-drop 1 i xs)
-
-  take_min : {X : Type 0} (n : ℕ) (xs : List X) → take (min n (length xs)) xs ≡ take n xs
-  take_min n xs =
-      elim (cases_lt n (length xs)) [
-        | inl less ↦ ap (λ k. take k xs) (omega arith)
-        | inr le ↦ take_all (min n (length xs)) xs (omega arith) ∙ sym (take_all n xs le)
-      ]
-
-  pub carrying_all : (st : State K) (calls : List (Call K)) (before answers : List Answer) (i : ℕ) (now : State K) → i ≡ min (length calls) (length before) → Carrying st calls before answers i now → Carried α st (take (length before) calls) (take (length calls) answers) now × (drop (length calls) answers ≡ drop (length calls) before)
-  carrying_all st calls before answers i now is carrying = (
-    (
-        let few : i ≡ min (length before) (length calls) = omega arith in
-        let told : i ≡ min (length calls) (length answers) = omega (arith, carrying.long) in
-        subst₂ (λ x y. Carried α st x y now) (ap (λ n. take n calls) few ∙ take_min (length before) calls) (ap (λ n. take n answers) told ∙ take_min (length calls) answers) carrying.done
-        ),
-    elim (cases_lt (length before) (length calls)) [
-      | inl short ↦ drop_all (length calls) answers (omega (arith, carrying.long)) ∙ sym (drop_all (length calls) before (omega arith))
-      | inr fits ↦
-          let same : i ≡ length calls = omega arith in
-          subst (λ n. drop n answers ≡ drop n before) same carrying.rest
-    ],
-  )

@@ -1,11 +1,8 @@
-use Rattle.std.proofs.Common.{◌<◌, refl, ◌∙◌, arith}
+use Rattle.std.proofs.Common.{◌<◌, ◌∙◌, arith}
 use Rattle.std.proofs.lemmas.List.{get_or-take, length-take-le}
 use Rattle.records.proofs.Requests.{state}
-use Rattle.network.proofs.CallLists.{carrying_more, carrying_all}
+use Rattle.network.proofs.CallLists.{carrying_more}
 use Rattle.network.proofs.networks.public.carry_all.Goals as goal
-
-pub loop-i-init : goal.loop-i-init
-loop-i-init g c = record { done = refl; rest = refl; long = refl }
 
 pub loop-i-preserved : goal.loop-i-preserved
 loop-i-preserved g c =
@@ -19,14 +16,3 @@ loop-i-preserved g c =
     let low : i < n = omega (arith, c.loop-i-test.true, few) in
     carrying_more g.K.Arrival.alpha (state first.rack first.table.memory.now first.table.len) calls c.args.answers.now c.loop-i.answers i (state net.rack net.table.memory.now net.table.len) (state new.rack new.table.memory.now new.table.len) c.call-item.result c.carry.result
     (omega (arith, low, c.min-count.ensures)) (omega (arith, low, c.min-count.ensures, c.loop-i.invariant.long)) (c.call-item.is ∙ get_or-take n calls i c.call-item.result low) c.loop-i.invariant c.carry.ensures
-
-pub returns : goal.returns
-returns g c =
-    let first = c.args.network.now.records in
-    let net = c.loop-i.network.records in
-    let calls = c.args.calls.now in
-    let n = c.min-count.result in
-    let few = length-take-le n calls (omega (arith, c.min-count.ensures)) in
-    let all = carrying_all g.K.Arrival.alpha (state first.rack first.table.memory.now first.table.len) calls c.args.answers.now c.loop-i.answers c.loop-i.i (state net.rack net.table.memory.now net.table.len)
-    (omega (arith, c.loop-i-test.false, c.loop-i.auto.i-end, c.min-count.ensures, few)) c.loop-i.invariant in
-    record { carried = all.0; rest = all.1 }
