@@ -1,5 +1,7 @@
 //! Prints the figures of a full table: 64 streams over 8 in-bound and 8 out-bound lines, each of which is
 //! busy about nine ticks of ten.
+//!
+//! Kind, rack and streams are its own, since it is to be read alone: a crate for them would be no plainer.
 #![tactic(auto)]
 
 use arrivals::{Arrival, Bucket, Choice, Message};

@@ -8,7 +8,8 @@ ghost use Rattle.ports.specs.Port.{ahead, Wait, Queued, PortDelay};
 use crate::loads::Load;
 use crate::ports::Port;
 
-/// No wait and no busy period is looked for beyond it.
+/// No wait and no busy period is looked for beyond it. Four functions ask for a number up to it, a tick, an index or an
+/// end: a type for each would be no plainer.
 pub const HORIZON: u32 = 200_000;
 
 /// The earliest tick that the cell `index` can be queued at, where it is from `low` to `high`. A loop, since the

@@ -1,4 +1,6 @@
 //! Prints the figures of a small plan: two streams over one in-bound and one out-bound line.
+//!
+//! Kind, rack and streams are its own, since it is to be read alone: a crate for them would be no plainer.
 #![tactic(auto)]
 
 use arrivals::{Arrival, Bucket, Choice, Message};
