@@ -1,6 +1,6 @@
 //! Carries out calls on a network of two lines, and prints each answer and the figures after it.
 //!
-//! Kind, rack and streams are its own, since it is to be read alone: a crate for them would be no plainer.
+//! Kind, lines and streams are its own, since it is to be read alone: a crate for them would be no plainer.
 #![tactic(auto)]
 
 use admission::TableFault;

@@ -1,6 +1,6 @@
 //! Tests of the figures, by tables of cases worked out by hand.
 //!
-//! Kind, rack and streams are its own, since it is to be read alone: a crate for them would be no plainer.
+//! Rack and streams are its own, since it is to be read alone: a crate for them would be no plainer.
 #![tactic(auto)]
 
 #[cfg(test)]

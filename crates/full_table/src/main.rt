@@ -94,6 +94,7 @@ fn print_streams(
     Ok(())
 }
 
+/// Much as in `worked`, which is to be read alone; a crate for it would be no plainer.
 fn print_needs(rt: &impl Print, figures: &Figures) -> io::Result<()> {
     for (place, need) in figures.needs.iter().enumerate() {
         let number = place + 1;

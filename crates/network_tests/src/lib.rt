@@ -1,6 +1,6 @@
 //! Tests of drafts and networks, by tables of cases worked out by hand.
 //!
-//! Kind, rack and streams are its own, since it is to be read alone: a crate for them would be no plainer.
+//! Kind, lines and streams are its own, since it is to be read alone: a crate for them would be no plainer.
 #![tactic(auto)]
 
 #[cfg(test)]

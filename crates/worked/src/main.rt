@@ -74,6 +74,7 @@ fn print_streams(
     Ok(())
 }
 
+/// Much as in `full_table`, which is to be read alone; a crate for it would be no plainer.
 fn print_lines(rt: &impl Print, rack: &Rack, figures: &Figures) -> io::Result<()> {
     for (place, need) in figures.needs.iter().enumerate() {
         if let (Some(line), Some(need)) = (rack.lines[place], need) {
