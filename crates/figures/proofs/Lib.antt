@@ -7,4 +7,3 @@ pub mod Hopwise
 pub mod TableFacts
 pub mod HopScan
 pub mod ByPriority
-pub mod Maps

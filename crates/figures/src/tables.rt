@@ -101,10 +101,14 @@ impl<'a, K: Arrival> Table<'a, K> {
         ensures late { (i : ℕ) → i < 64 → slice_index_or result.late i None ≡ Some (slice_index q1.now i + spread self.now.rack.now) }
     {
         let spread = self.rack.hub.most - self.rack.hub.least;
+        let mut late = [None; MOST_STREAMS];
+        for (place, delay) in q1.iter().enumerate() {
+            late[place] = Some(*delay + spread);
+        }
         Traffic {
             rack: self.rack,
             streams: self.streams,
-            late: q1.map(|delay| Some(delay + spread)),
+            late,
         }
     }
 

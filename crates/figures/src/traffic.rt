@@ -9,7 +9,7 @@ use crate::groups::Group;
 use crate::racks::Rack;
 use crate::streams::Stream;
 use arrivals::{Arrival, LONGEST_WINDOW, delayed_count};
-use ports::Port;
+use ports::{Port, RisingLoad};
 
 /// The most streams of a table.
 pub const MOST_STREAMS: usize = 64;
@@ -39,7 +39,7 @@ pub fn seen_count<K: Arrival>(kind: &K, late: Option<u32>, window: u32) -> u32
 
 impl<'a, K> Traffic<'a, K> {
     /// The port of the line `number`, to which `load` comes.
-    pub fn port<L>(&self, number: u8, load: L) -> Port<L>
+    pub fn port<L: RisingLoad>(&self, number: u8, load: L) -> Port<L>
         ensures load { result.load ≡ load }
         ensures cell_time { result.cell_time ≡ cell_time self.now.rack.now number }
     {

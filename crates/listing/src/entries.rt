@@ -15,14 +15,14 @@ pub enum Entry {
     /// It was refused, by this number, and the refusal names this stream or line. A number, since no fault is known down
     /// here, and a line tells no more of one.
     Refused {
-        at: usize,
         number: u8,
         party: u16,
+        at: usize,
     },
     /// Reading stopped at this byte, by the refusal of this number.
     Stopped {
-        at: usize,
         number: u8,
+        at: usize,
     },
     /// The delays of a stream at its two ports, and its total.
     Stream {
@@ -72,21 +72,9 @@ impl Entry {
         ensures { result.text.bytes ≡ line_text self.now }
     {
         match *self {
-            Entry::Done { at } => Line::new().text("at ").number(at).text(" ok\n"),
-            Entry::Refused { at, number, party } => Line::new()
-                .text("at ")
-                .number(at)
-                .text(" no ")
-                .number(number)
-                .text(" ")
-                .number(party)
-                .text("\n"),
-            Entry::Stopped { at, number } => Line::new()
-                .text("stop ")
-                .number(at)
-                .text(" ")
-                .number(number)
-                .text("\n"),
+            Entry::Done { at } => done_line(at),
+            Entry::Refused { number, party, at } => refused_line(number, party, at),
+            Entry::Stopped { number, at } => stopped_line(number, at),
             Entry::Stream {
                 number,
                 q1,
@@ -102,30 +90,68 @@ impl Entry {
     }
 }
 
+fn done_line(at: usize) -> Line
+    ensures { result.text.bytes ≡ line_text (Entry.Done at) }
+{
+    let mut line = Line::new();
+    line.text("at ");
+    line.number(at);
+    line.text(" ok\n");
+    line
+}
+
+fn refused_line(number: u8, party: u16, at: usize) -> Line
+    ensures { result.text.bytes ≡ line_text (Entry.Refused number party at) }
+{
+    let mut line = Line::new();
+    line.text("at ");
+    line.number(at);
+    line.text(" no ");
+    line.number(number);
+    line.text(" ");
+    line.number(party);
+    line.text("\n");
+    line
+}
+
+fn stopped_line(number: u8, at: usize) -> Line
+    ensures { result.text.bytes ≡ line_text (Entry.Stopped number at) }
+{
+    let mut line = Line::new();
+    line.text("stop ");
+    line.number(at);
+    line.text(" ");
+    line.number(number);
+    line.text("\n");
+    line
+}
+
 fn stream_line(number: u16, q1: u32, q2: u32, total: u32) -> Line
     ensures { result.text.bytes ≡ line_text (Entry.Stream number q1 q2 total) }
 {
-    Line::new()
-        .text("stream ")
-        .number(number)
-        .text(" q1 ")
-        .number(q1)
-        .text(" q2 ")
-        .number(q2)
-        .text(" total ")
-        .number(total)
-        .text("\n")
+    let mut line = Line::new();
+    line.text("stream ");
+    line.number(number);
+    line.text(" q1 ");
+    line.number(q1);
+    line.text(" q2 ");
+    line.number(q2);
+    line.text(" total ");
+    line.number(total);
+    line.text("\n");
+    line
 }
 
 fn need_line(number: u8, need: u32, places: u32) -> Line
     ensures { result.text.bytes ≡ line_text (Entry.Line number need places) }
 {
-    Line::new()
-        .text("line ")
-        .number(number)
-        .text(" need ")
-        .number(need)
-        .text(" of ")
-        .number(places)
-        .text("\n")
+    let mut line = Line::new();
+    line.text("line ");
+    line.number(number);
+    line.text(" need ");
+    line.number(need);
+    line.text(" of ");
+    line.number(places);
+    line.text("\n");
+    line
 }

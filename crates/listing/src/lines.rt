@@ -23,21 +23,21 @@ impl Line {
         }
     }
 
-    pub fn text(mut self, text: &str) -> Line
-        requires { length self.text.bytes + length text.now ≤ 90 }
-        ensures text { result.text.bytes ≡ self.text.bytes ++ text.now }
-        ensures width { length result.text.bytes ≡ length self.text.bytes + length text.now }
+    /// Adds the text.
+    pub fn text(&mut self, text: &str)
+        requires { length self.old.text.bytes + length text.now ≤ 90 }
+        ensures text { self.new.text.bytes ≡ self.old.text.bytes ++ text.now }
+        ensures width { length self.new.text.bytes ≡ length self.old.text.bytes + length text.now }
     {
         self.text.push_str(text);
-        self
     }
 
-    /// The decimal digits of the number.
-    pub fn number<I: Integer>(self, n: I) -> Line
-        requires { length self.text.bytes + I.MAX_STR_LEN ≤ 90 }
-        ensures text { result.text.bytes ≡ self.text.bytes ++ I.text n }
-        ensures width { length result.text.bytes ≤ length self.text.bytes + I.MAX_STR_LEN }
+    /// Adds the decimal digits of the number.
+    pub fn number<I: Integer>(&mut self, n: I)
+        requires { length self.old.text.bytes + I.MAX_STR_LEN ≤ 90 }
+        ensures text { self.new.text.bytes ≡ self.old.text.bytes ++ I.text n }
+        ensures width { length self.new.text.bytes ≤ length self.old.text.bytes + I.MAX_STR_LEN }
     {
-        self.text(Buffer::new().format(n))
+        self.text(Buffer::new().format(n));
     }
 }

@@ -436,6 +436,27 @@ mod tests {
         Ok(())
     }
 
+    /// A type that says nothing of the kind can hold a network.
+    #[derive(Drop)]
+    struct Held<'a, K> {
+        network: Network<'a, K>,
+    }
+
+    fn handed_on<'a, K>(held: Held<'a, K>) -> Network<'a, K> {
+        let Held { network } = held;
+        network
+    }
+
+    #[test]
+    fn networks_are_held(rt: HostRuntime) -> Result<(), Fail> {
+        let mut memory = [stream_10(); 2];
+        let Some(network) = full_plan(&mut memory) else {
+            return Err(Fail::new("no full plan"));
+        };
+        assert!(rt; is_full_plan(&handed_on(Held { network })));
+        Ok(())
+    }
+
     /// The faults of a kind, as faults of the call that makes it.
     #[test]
     fn kinds(rt: HostRuntime) {

@@ -2,7 +2,6 @@
 use Rattle.std.proofs.Common.{◌≡◌, ℕ, ◌+◌, ◌-◌, ◌<◌, ◌≤◌, eqb, List, [], ◌∷◌, ◌++◌, length, get_or, take, Some, None, Ok, Option, sym, refl, ap, ◌∙◌, subst, append_assoc, arith, length-take}
 use Rattle.std.proofs.lemmas.List.{append-nil, take_more}
 use Rattle.std.proofs.lemmas.Bool.{cond-false, ne_eqb}
-use Rattle.arrivals.specs.declared.arrivals.Arrival.{Ghosts}
 use Rattle.arrivals.specs.declared.choices.Choice.TheVariants.{First}
 use Rattle.figures.specs.declared.delays.StreamFigures.{StreamFigures}
 use Rattle.figures.specs.declared.racks.Line.{Line}
@@ -19,7 +18,7 @@ use Rattle.planfile.specs.Kinds.{PlanKind, plan_alpha}
 use Rattle.planfile.specs.Points.{Added}
 
 -- what the type of a network keeps, of its state
-pub sound : {ghosts : Ghosts PlanKind} (net : Network PlanKind ghosts) → Sound (state_of net.records)
+pub sound : (net : Network PlanKind) → Sound (state_of net.records)
 sound net = record { kept = net.kept; differ = net.differ; sixteen = net.sixteen; fields = net.fields }
 
 -- one line more behind those that were added

@@ -13,7 +13,7 @@ abbrev pub of_input : FileFault → Bool
 of_input fault = nat_le (refusal fault) last_of_input
 
 abbrev pub stop_line : FileFault → Entry
-stop_line fault = Stopped (place fault) (refusal fault)
+stop_line fault = Stopped (refusal fault) (place fault)
 
 abbrev pub refused_line : FileFault → Entry
-refused_line fault = Refused (place fault) (refusal fault) (party fault)
+refused_line fault = Refused (refusal fault) (party fault) (place fault)

@@ -1,6 +1,7 @@
 //! Plan files: their records carried out one after the other, and the listing of what came of it.
 #![tactic(auto)]
 
+mod admitted;
 mod journals;
 mod phases;
 mod plans;

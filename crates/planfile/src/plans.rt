@@ -5,6 +5,7 @@ ghost use Rattle.planfile.specs.Plans.{PlanTold, longest_listing};
 ghost use Rattle.planfile.specs.Points.{Entered, Finishes, Fitting, PlanRead, Stops, noted};
 ghost use Rattle.planfile.specs.Stages.{closed, networked};
 
+use crate::admitted::Admitted;
 use crate::journals::Journal;
 use crate::readers::{read_lines, run};
 use crate::stages::open_draft;
@@ -41,9 +42,10 @@ fn finish(
     requires { Fitting (noted journal.old) walker.at walker.rest.now }
     ensures { MatchResult result (λ _. Finishes (noted journal.old) (networked (closed (min most_streams (length memory.old)) draft.rack)) walker.entry.at walker.entry.rest.now (min most_streams (length memory.old)) (noted journal.new)) (λ fault. Stops (noted journal.old) (networked (closed (min most_streams (length memory.old)) draft.rack)) walker.entry.at walker.entry.rest.now (min most_streams (length memory.old)) (noted journal.new) fault) }
 {
-    let mut network = draft.close(memory);
-    run(walker, &mut network, journal)?;
-    list_figures(&network, journal);
+    let network = draft.close(memory);
+    let mut admitted = Admitted { network };
+    run(walker, &mut admitted, journal)?;
+    list_figures(&admitted, journal);
     Ok(())
 }
 

@@ -4,10 +4,11 @@ ghost use Rattle.records.specs.Records.{state_of};
 ghost use Rattle.planfile.specs.Points.{Ends, Fitting, Leads, Stops, noted};
 ghost use Rattle.planfile.specs.Stages.{closed, drafted, networked};
 
+use crate::admitted::Admitted;
 use crate::journals::Journal;
 use crate::stages::{read_line, take_call};
-use network::{Draft, Network};
-use wire::{FileFault, Kind, Walker};
+use network::Draft;
+use wire::{FileFault, Walker};
 
 /// Takes the lines, and leaves the walker at the record that closes the draft, or at the end of the file. No `for`: the
 /// walker stays at a record that is cut short, so that its records have no end.
@@ -32,17 +33,13 @@ pub fn read_lines(
 
 /// Takes the calls, up to the end of the file, by a `while let` as above. Network and journal stay two parameters here and in what is called: the
 /// journal outlives a fault and the network does not, so a struct of both would be two references, and no plainer.
-pub fn run(
-    walker: Walker,
-    network: &mut Network<Kind>,
-    journal: &mut Journal,
-) -> Result<(), FileFault>
+pub fn run(walker: Walker, admitted: &mut Admitted, journal: &mut Journal) -> Result<(), FileFault>
     requires { Fitting (noted journal.old) walker.at walker.rest.now }
-    ensures { MatchResult result (λ _. (room : ℕ) → Ends (noted journal.old) (networked (state_of network.old.records)) walker.entry.at walker.entry.rest.now room (noted journal.new) (networked (state_of network.new.records))) (λ fault. (room : ℕ) → Stops (noted journal.old) (networked (state_of network.old.records)) walker.entry.at walker.entry.rest.now room (noted journal.new) fault) }
+    ensures { MatchResult result (λ _. (room : ℕ) → Ends (noted journal.old) (networked (state_of admitted.old.network.records)) walker.entry.at walker.entry.rest.now room (noted journal.new) (networked (state_of admitted.new.network.records))) (λ fault. (room : ℕ) → Stops (noted journal.old) (networked (state_of admitted.old.network.records)) walker.entry.at walker.entry.rest.now room (noted journal.new) fault) }
 {
     let mut ahead = walker;
     while let Some(record) = ahead.next()? {
-        take_call(network, journal, record)?;
+        take_call(admitted, journal, record)?;
     }
     Ok(())
 }

@@ -5,11 +5,12 @@ ghost use Rattle.planfile.specs.Points.{Took, Opens, noted};
 ghost use Rattle.planfile.specs.declared.phases.Phase.TheVariants.{Drafting};
 ghost use Rattle.planfile.specs.Stages.{Called, is_call, lined, networked, read_in};
 
+use crate::admitted::Admitted;
 use crate::journals::Journal;
 use crate::phases::Phase;
 use admission::TableFault;
 use figures::Line;
-use network::{Draft, Network};
+use network::Draft;
 use wire::{FileFault, Kind, Placed, Record, placed};
 
 /// The draft of the first record.
@@ -33,10 +34,11 @@ pub fn read_line(piece: Placed) -> Result<Option<(u8, Line)>, FileFault>
 }
 
 /// Carries out what the record asks of the network.
-fn call(network: &mut Network<Kind>, what: Record<Kind>) -> Result<(), TableFault>
+fn call(admitted: &mut Admitted, what: Record<Kind>) -> Result<(), TableFault>
     requires { is_call what ≡ true }
-    ensures { Called (state_of network.old.records) what result (state_of network.new.records) }
+    ensures { Called (state_of admitted.old.network.records) what result (state_of admitted.new.network.records) }
 {
+    let network = &mut admitted.network;
     match what {
         Record::Stream(stream) => network.request(stream),
         Record::Withdrawal(number) => network.withdraw(number),
@@ -47,13 +49,13 @@ fn call(network: &mut Network<Kind>, what: Record<Kind>) -> Result<(), TableFaul
 
 /// Takes the record as a call on the network.
 pub fn take_call(
-    network: &mut Network<Kind>,
+    admitted: &mut Admitted,
     journal: &mut Journal,
     piece: Placed,
 ) -> Result<(), FileFault>
     requires { length (noted journal.old) < 1679 }
-    ensures { Took (networked (state_of network.old.records)) (noted journal.old) piece.entry.at piece.entry.bytes.now result (networked (state_of network.new.records)) (noted journal.new) }
+    ensures { Took (networked (state_of admitted.old.network.records)) (noted journal.old) piece.entry.at piece.entry.bytes.now result (networked (state_of admitted.new.network.records)) (noted journal.new) }
 {
     let what = Phase::Running.read(piece)?;
-    journal.note(piece.at, call(network, what))
+    journal.note(piece.at, call(admitted, what))
 }

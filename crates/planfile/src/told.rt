@@ -7,6 +7,7 @@ ghost use Rattle.planfile.specs.Figures.{LinesListed, NetworkListed, StreamsList
 ghost use Rattle.planfile.specs.Kinds.{plan_alpha};
 ghost use Rattle.planfile.specs.Points.{Added, noted};
 
+use crate::admitted::Admitted;
 use crate::journals::Journal;
 use figures::{Delays, Figures, Table};
 use listing::Entry;
@@ -53,10 +54,11 @@ fn list_lines(network: &Network<Kind>, figures: &Figures, journal: &mut Journal)
 }
 
 /// Notes the figures of the network: of its streams, then of its lines.
-pub fn list_figures(network: &Network<Kind>, journal: &mut Journal)
-    requires { length (noted journal.old) + length (table network.now.records) + 16 ≤ 1679 }
-    ensures { Added (NetworkListed (state_of network.now.records)) (noted journal.old) (noted journal.new) }
+pub fn list_figures(admitted: &Admitted, journal: &mut Journal)
+    requires { length (noted journal.old) + length (table admitted.now.network.records) + 16 ≤ 1679 }
+    ensures { Added (NetworkListed (state_of admitted.now.network.records)) (noted journal.old) (noted journal.new) }
 {
+    let network = &admitted.network;
     let view = network.as_table();
     let Ok(figures) = view.figures() else {
         unreachable!()

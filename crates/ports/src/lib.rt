@@ -6,6 +6,6 @@ mod needs;
 mod ports;
 mod waits;
 
-pub use loads::Load;
+pub use loads::{Load, RisingLoad};
 pub use ports::Port;
 pub use waits::HORIZON;

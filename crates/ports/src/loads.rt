@@ -10,16 +10,21 @@ pub trait Load {
     /// The load at `window`, or at the longest window where that is shorter.
     fn at(&self, window: u32) -> u32
         ensures { result ≡ load self.now (min window longest) };
+}
 
-    ghost rises: { (l : Self) → Rising (load l) };
+/// A load that never falls as the window grows, whatever its value.
+pub trait RisingLoad: Load {
+    ghost rises: { (l : Self) → Rising (Self.load l) };
 }
 
 impl<L: Load> Load for &L {
     ghost load = { λ l. L.Load.load l.now };
 
-    ghost rises = { λ l. L.Load.rises l.now };
-
     fn at(&self, window: u32) -> u32 {
         (**self).at(window)
     }
+}
+
+impl<L: RisingLoad> RisingLoad for &L {
+    ghost rises = { λ l. L.RisingLoad.rises l.now };
 }

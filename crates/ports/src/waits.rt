@@ -2,7 +2,7 @@
 ghost use Rattle.std.specs.Prelude.{◌≡◌, ℕ, ◌+◌, ◌-◌, ◌*◌, ◌≤◌};
 ghost use Rattle.arrivals.specs.Least.{Least};
 ghost use Rattle.ports.specs.Limits.{horizon};
-ghost use Rattle.ports.specs.Loads.{Below};
+ghost use Rattle.ports.specs.Loads.{Rising, Below};
 ghost use Rattle.ports.specs.Port.{ahead, Wait, Queued, PortDelay};
 
 use crate::loads::Load;
@@ -16,6 +16,7 @@ pub const HORIZON: u32 = 200_000;
 /// library's binary searches go over slices and not over ranges of numbers.
 fn earliest<L: Load>(own: &L, index: u32, low: u32, high: u32) -> u32
     requires near { high ≤ horizon }
+    requires rising { Rising (L.Load.load own.now) }
     requires queued { Queued (L.Load.load own.now) index high }
     requires after { (d : ℕ) → Queued (L.Load.load own.now) index d → low ≤ d }
     ensures { Least (Queued (L.Load.load own.now) index) result }
@@ -56,7 +57,8 @@ impl<L: Load> Port<L> {
 
     /// The port delay of a stream that queues `own`, where the load is what goes before it.
     pub fn delay<A: Load>(&self, own: &A) -> Option<u32>
-        requires { 1 ≤ A.Load.load own.now 1 }
+        requires some { 1 ≤ A.Load.load own.now 1 }
+        requires rising { Rising (A.Load.load own.now) }
         ensures { PortDelay self.now.cell_time (A.Load.load own.now) (L.Load.load self.now.load) result }
     {
         let mut worst: u32 = 0;

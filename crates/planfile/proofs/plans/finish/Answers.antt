@@ -20,16 +20,16 @@ returns-in_err-run c =
 
 pub list_figures-requires : goal.list_figures-requires
 list_figures-requires c =
-    let net = c.run.new.network in
+    let net = c.run.new.admitted.network in
     let ends = c.in_ok-run.ensures 0 in
     omega (arith, ends.few, few net.records.rack (table net.records) net.kept)
 
 pub returns : goal.returns
 returns c =
     let w = c.args.walker in
-    let net = c.run.new.network in
+    let net = c.run.new.admitted.network in
     let room = min most_streams (length c.args.memory.now) in
     finishes (noted c.args.journal.now) (networked (state_of c.close-network.result.records)) (networked _) w.at w.rest.now room
     (noted c.run.new.journal) (noted c.list_figures.new.journal) (state_of net.records)
     (ap networked c.close-network.ensures.state) (c.in_ok-run.ensures room)
-    (sound net) net.passing c.list_figures.ensures
+    (sound net) c.run.new.admitted.passing c.list_figures.ensures

@@ -8,6 +8,6 @@ use Rattle.planfile.proofs.plans.list_entries.Goals as goal
 pub returns-in-Err : goal.returns-in-Err
 returns-in-Err c =
     let lines = noted c.read_plan.new.journal in
-    let same = ap₂ (λ p n. lines ++ Stopped p n ∷ []) c.place.ensures c.number.ensures in
+    let same = ap₂ (λ p n. lines ++ Stopped n p ∷ []) c.place.ensures c.number.ensures in
     stopped_entered (min most_streams (length c.args.memory.now)) c.args.bytes.now c.in-Err.fault lines (noted c.push.new.self)
     c.in-Err.ensures (c.push.ensures ∙ same)

@@ -14,8 +14,8 @@ returns-in_err-record c =
     let w = c.args.walker in
     let a = c.loop-record.ahead in
     rw (p.1, p.2)
-    (cut_stops (noted c.args.journal.now) (networked (state_of c.args.network.now.records)) w.at w.rest.now
-    (noted c.loop-record.journal) (networked (state_of c.loop-record.network.records)) a.at a.rest.now c.loop-record.invariant.0 c.loop-record.invariant.1
+    (cut_stops (noted c.args.journal.now) (networked (state_of c.args.admitted.now.network.records)) w.at w.rest.now
+    (noted c.loop-record.journal) (networked (state_of c.loop-record.admitted.network.records)) a.at a.rest.now c.loop-record.invariant.0 c.loop-record.invariant.1
     _ _ _ c.in_err-record.ensures)
 
 pub loop-record-smaller : goal.loop-record-smaller
@@ -29,14 +29,14 @@ loop-record-preserved c =
     let a = c.loop-record.ahead in
     let n = c.next.new.self in
     let lines = noted c.loop-record.journal in
-    let stage = networked (state_of c.loop-record.network.records) in
+    let stage = networked (state_of c.loop-record.admitted.network.records) in
     let lines' = noted c.take_call.new.journal in
-    let next = networked (state_of c.take_call.new.network.records) in
+    let next = networked (state_of c.take_call.new.admitted.network.records) in
     let place = c.in-Some.record.at in
     let front = c.in-Some.record.bytes.now in
     let met : Met a.at a.rest.now place front n.at n.rest.now = MatchOption-at_some _ _ c.in-Some.record c.in-Some.is c.in_ok-record.ensures in
     let took = c.in_ok-take_call.ensures in (
-      leads_on (noted c.args.journal.now) (networked (state_of c.args.network.now.records)) w.at w.rest.now lines stage a.at a.rest.now
+      leads_on (noted c.args.journal.now) (networked (state_of c.args.admitted.now.network.records)) w.at w.rest.now lines stage a.at a.rest.now
           c.loop-record.invariant.0 c.loop-record.invariant.1 place front n.at n.rest.now met next lines' took,
       fitting_on stage lines a.at place a.rest.now front n.at n.rest.now c.loop-record.invariant.1 met next lines' took,
     )
@@ -51,10 +51,10 @@ returns-in_err-take_call c =
     let front = c.in-Some.record.bytes.now in
     let met : Met a.at a.rest.now place front n.at n.rest.now = MatchOption-at_some _ _ c.in-Some.record c.in-Some.is c.in_ok-record.ensures in
     rw (p.1, p.2)
-    (took_stops (noted c.args.journal.now) (networked (state_of c.args.network.now.records)) w.at w.rest.now
-    (noted c.loop-record.journal) (networked (state_of c.loop-record.network.records)) a.at a.rest.now
+    (took_stops (noted c.args.journal.now) (networked (state_of c.args.admitted.now.network.records)) w.at w.rest.now
+    (noted c.loop-record.journal) (networked (state_of c.loop-record.admitted.network.records)) a.at a.rest.now
     c.loop-record.invariant.0 c.loop-record.invariant.1 place front n.at n.rest.now met
-    c.in_err-take_call.field-0.0 (networked (state_of c.take_call.new.network.records)) (noted c.take_call.new.journal) c.in_err-take_call.ensures)
+    c.in_err-take_call.field-0.0 (networked (state_of c.take_call.new.admitted.network.records)) (noted c.take_call.new.journal) c.in_err-take_call.ensures)
 
 pub returns : goal.returns
 returns c =
@@ -62,6 +62,6 @@ returns c =
     let a = c.loop-record.ahead in
     let n = c.next.new.self in
     let at_end : Ended a.at a.rest.now n.at n.rest.now = MatchOption-at_none _ _ c.in_default.is c.in_ok-record.ensures in
-    end_ends (noted c.args.journal.now) (networked (state_of c.args.network.now.records)) w.at w.rest.now
-    (noted c.loop-record.journal) (networked (state_of c.loop-record.network.records)) a.at a.rest.now c.loop-record.invariant.0 c.loop-record.invariant.1
+    end_ends (noted c.args.journal.now) (networked (state_of c.args.admitted.now.network.records)) w.at w.rest.now
+    (noted c.loop-record.journal) (networked (state_of c.loop-record.admitted.network.records)) a.at a.rest.now c.loop-record.invariant.0 c.loop-record.invariant.1
     n.at n.rest.now at_end

@@ -6,7 +6,7 @@ use Rattle.planfile.proofs.readers.run.Given as goal
 
 abbrev pub invariant-loop-record : goal.invariant-loop-record
 invariant-loop-record l =
-    ((room : ℕ) → Leads (noted l.initial.journal) (networked (state_of l.initial.network.records)) l.initial.ahead.at l.initial.ahead.rest.now room (noted l.journal) (networked (state_of l.network.records)) l.ahead.at l.ahead.rest.now)
+    ((room : ℕ) → Leads (noted l.initial.journal) (networked (state_of l.initial.admitted.network.records)) l.initial.ahead.at l.initial.ahead.rest.now room (noted l.journal) (networked (state_of l.admitted.network.records)) l.ahead.at l.ahead.rest.now)
     × Fitting (noted l.journal) l.ahead.at l.ahead.rest.now
 
 abbrev pub decreases-loop-record : goal.decreases-loop-record

@@ -10,14 +10,14 @@ use Rattle.planfile.proofs.told.list_figures.Goals as goal
 
 pub unreachable-requires : goal.unreachable-requires
 unreachable-requires c =
-    let net = c.args.network.now in
-    ∥∥₁_elim net.passing (elim [ ]) (λ P. figures_there plan_alpha (state_of net.records) (sound net)
+    let net = c.args.admitted.now.network in
+    ∥∥₁_elim c.args.admitted.now.passing (elim [ ]) (λ P. figures_there plan_alpha (state_of net.records) (sound net)
     P c.in_default.field-0
     (subst₂ (λ r t. FiguresTold plan_alpha r t (Err c.in_default.field-0)) c.as_table-view.ensures.rack c.as_table-view.ensures.streams c.in_default.ensures))
 
 pub list_streams-requires-clause-delays : goal.list_streams-requires-clause-delays
 list_streams-requires-clause-delays c =
-    let are : FiguresAre plan_alpha c.args.network.now.records.rack (table c.args.network.now.records) c.in-Ok.figures =
+    let are : FiguresAre plan_alpha c.args.admitted.now.network.records.rack (table c.args.admitted.now.network.records) c.in-Ok.figures =
     subst₂ (λ r t. FiguresAre plan_alpha r t c.in-Ok.figures) c.as_table-view.ensures.rack c.as_table-view.ensures.streams c.in-Ok.ensures in
     are.delays_are
 
@@ -33,10 +33,10 @@ list_lines-requires-clause-few c =
       c.requires,
       ap length added.2,
       length-append (noted c.args.journal.now) added.0,
-      streams_length (state_of c.args.network.now.records) added.1,
+      streams_length (state_of c.args.admitted.now.network.records) added.1,
     )
 
 pub returns : goal.returns
 returns c =
-    network_added (state_of c.args.network.now.records) (noted c.args.journal.now) (noted c.list_streams.new.journal)
+    network_added (state_of c.args.admitted.now.network.records) (noted c.args.journal.now) (noted c.list_streams.new.journal)
     (noted c.list_lines.new.journal) c.list_streams.ensures c.list_lines.ensures

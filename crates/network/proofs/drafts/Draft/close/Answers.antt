@@ -27,7 +27,6 @@ invariant_of-result g c =
       differ = subst (λ xs. numbers_differ xs ≡ true) empty refl;
       sixteen = ap (λ rack. length rack.lines) e.0 ∙ draft.sixteen;
       fields = subst (λ xs. all_within xs ≡ true) empty refl;
-      passing = ∣ passing ∣₁;
     }
 
 pub returns : goal.returns

@@ -20,5 +20,5 @@ loop-u-preserved g c =
     let same : c.from-cells.result * C ≡ G u * C = ap (λ x. x * C) n in (
       omega (arith, not_clear C pos c.from-cells.result u left),
       λ v le clear.
-          omega (arith, clear_later C pos G (g.met.L.Load.rises c.args.self.now.load) u (omega arith) (omega arith) v le (c.loop-u.invariant.1 v le clear) (subst (λ x. Clears x G v) (sym c.from-cell.ensures) clear)),
+          omega (arith, clear_later C pos G (c.args.self.now.rising) u (omega arith) (omega arith) v le (c.loop-u.invariant.1 v le clear) (subst (λ x. Clears x G v) (sym c.from-cell.ensures) clear)),
     )

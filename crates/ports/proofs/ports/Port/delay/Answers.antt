@@ -11,18 +11,18 @@ at_is f w r near e =
     subst (λ x. r ≡ f x) m e
 
 pub loop-index-init : goal.loop-index-init
-loop-index-init g c = walk_none c.requires (g.met.A.Load.rises _) (g.met.L.Load.rises _)
+loop-index-init g c = walk_none c.requires.some (c.requires.rising) (c.args.self.now.rising)
 
 pub returns-then-at-index : goal.returns-then-at-index
 returns-then-at-index g c =
     let s = c.in_ok-w.ensures in
     let n : c.at.result ≡ g.A.Load.load c.args.own.now (c.in_ok-w.w + 1) = at_is (g.A.Load.load c.args.own.now) _ _ s.0 c.at.ensures in
     rw c.max-worst.ensures
-    (walk_ends c.requires (g.met.A.Load.rises _) (g.met.L.Load.rises _) c.loop-index.invariant s c.earliest-early.ensures (omega arith))
+    (walk_ends c.requires.some (c.requires.rising) (c.args.self.now.rising) c.loop-index.invariant s c.earliest-early.ensures (omega arith))
 
 pub loop-index-preserved : goal.loop-index-preserved
 loop-index-preserved g c =
     let s = c.in_ok-w.ensures in
     let n : c.at.result ≡ g.A.Load.load c.args.own.now (c.in_ok-w.w + 1) = at_is (g.A.Load.load c.args.own.now) _ _ s.0 c.at.ensures in
     rw c.max-worst.ensures
-    (walk_more c.requires (g.met.A.Load.rises _) (g.met.L.Load.rises _) c.loop-index.invariant s c.earliest-early.ensures (omega arith))
+    (walk_more c.requires.some (c.requires.rising) (c.args.self.now.rising) c.loop-index.invariant s c.earliest-early.ensures (omega arith))
