@@ -94,7 +94,8 @@ impl<'a, K: Arrival> Table<'a, K> {
         }
     }
 
-    /// The streams as they come to the hub ports, where they had these delays at the probe ports.
+    /// The streams as they come to the hub ports, where they had these delays at the probe ports. A loop: an array's `map` proved
+    /// too, and with it a figure call on a network of two streams took up to half as long again.
     fn late(&self, q1: &[u32; MOST_STREAMS]) -> Traffic<'a, K>
         requires { (i : ℕ) → slice_index q1.now i ≤ horizon }
         ensures ours { (result.rack.now ≡ self.now.rack.now) × (result.streams.now ≡ self.now.streams.now) }

@@ -6,6 +6,7 @@ ghost use Rattle.listing.specs.declared.entries.Entry.TheVariants.{Done};
 
 use crate::lines::Line;
 
+/// The byte place stands last, so that an entry takes 16 bytes; standing first, it would take 24.
 #[derive(Clone, Copy)]
 pub enum Entry {
     /// The record at this byte was carried out.
@@ -38,6 +39,8 @@ pub enum Entry {
         places: u32,
     },
 }
+
+const _: () = prove!(size_of::<Entry>() == 16);
 
 /// What a fixed vector of entries holds at places that are not in use.
 impl Default for Entry {

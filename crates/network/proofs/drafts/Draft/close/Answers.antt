@@ -1,10 +1,8 @@
-use Rattle.std.proofs.Common.{◌≡◌, ℕ, min, true, List, [], length, refl, sym, ap, ◌∙◌, subst}
+use Rattle.std.proofs.Common.{◌≡◌, ℕ, min, List, [], length, sym, subst}
 use Rattle.figures.specs.declared.racks.Rack.{Rack}
 use Rattle.figures.specs.declared.streams.Stream.{Stream}
 use Rattle.figures.specs.Limits.{most_streams}
 use Rattle.figures.specs.Tables.{Passing}
-use Rattle.records.specs.Lists.{numbers_differ}
-use Rattle.records.specs.States.{all_within}
 use Rattle.records.proofs.Requests.{state}
 use Rattle.network.proofs.EmptyTable.{passing_empty}
 use Rattle.network.proofs.drafts.Draft.close.Goals as goal
@@ -13,21 +11,6 @@ no_streams : {K : Type 0} (rack rack' : Rack) (m m' : List (Stream K)) (len : �
 no_streams rack rack' m m' len a b c =
     let d : state rack' m' len ≡ state rack m 0 = cc in
     d
-
-pub invariant_of-result : goal.invariant_of-result
-invariant_of-result g c =
-    let e = c.new-records.ensures in
-    let new = c.new-records.result in
-    let draft = c.args.self in
-    let is = no_streams draft.rack new.rack c.args.memory.now new.table.memory.now new.table.len e.0 e.2 e.1 in
-    let passing = subst (λ st. Passing g.K.Arrival.alpha st.rack st.streams) (sym is) (passing_empty g.K.Arrival.alpha draft.rack draft.kept) in
-    let empty = sym (ap (λ st. st.streams) is) in
-    record {
-      kept = passing.kept;
-      differ = subst (λ xs. numbers_differ xs ≡ true) empty refl;
-      sixteen = ap (λ rack. length rack.lines) e.0 ∙ draft.sixteen;
-      fields = subst (λ xs. all_within xs ≡ true) empty refl;
-    }
 
 pub returns : goal.returns
 returns g c =
